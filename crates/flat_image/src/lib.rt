@@ -1,0 +1,2 @@
+//! The model that the crates above share: images, sheets of cells, and painting.
+#![tactic(auto)]
