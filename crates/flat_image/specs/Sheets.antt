@@ -1,5 +1,5 @@
 -- Images, sheets, and how a sheet is painted over an image.
-use Rattle.std.specs.Prelude.{ℕ, List, [], ◌∷◌, replicate}
+use Rattle.std.specs.Prelude.{ℕ, zero, suc, List, [], ◌∷◌, replicate, take, drop}
 use Rattle.std.specs.List.{concat, fold}
 
 -- a sector of zeros; a sector has 512 bytes
@@ -33,3 +33,8 @@ flat n sheets = fold paint (replicate n zero_sector) sheets
 -- an image as bytes
 abbrev pub bytes_of : List (List ℕ) → List ℕ
 bytes_of image = concat image
+
+-- the first n sectors of an image that stands as bytes
+abbrev pub image_in : ℕ → List ℕ → List (List ℕ)
+image_in zero bytes = []
+image_in (suc n) bytes = take 512 bytes ∷ image_in n (drop 512 bytes)

@@ -1,0 +1,77 @@
+-- Painting a run of sectors, as bytes.
+use Rattle.std.proofs.Common.{◌≡◌, ℕ, zero, suc, ◌+◌, ◌*◌, ◌<◌, ◌≤◌, List, [], ◌++◌, map, take, drop, refl, sym, ap, ◌∙◌, append_assoc, arith}
+use Rattle.std.proofs.Math.ListN.{replicate}
+use Rattle.std.proofs.Math.Seq.{take-add}
+use Rattle.std.proofs.lemmas.List.{drop-drop, replicate-append-replicate}
+use Rattle.std.specs.List.{range_with_len}
+use Rattle.flat_image.specs.Sheets.{Cell, Hole, Zero, Filled, zero_sector, painted, paint, bytes_of, image_in}
+use Rattle.flat_image.specs.RowCells.{sector_at}
+
+-- the bytes of n sectors from `at` on, painted with the cells of a function over what stands there
+abbrev pub run : (ℕ → Cell) → ℕ → ℕ → List ℕ → List ℕ
+run cell at zero old = []
+run cell at (suc n) old = painted (take 512 old) (cell at) ++ run cell (at + 1) n (drop 512 old)
+
+-- that is painting
+pub bytes_of-paint : (cell : ℕ → Cell) (at n : ℕ) (old : List ℕ) → bytes_of (paint (image_in n old) (map cell (range_with_len at n))) ≡ run cell at n old
+bytes_of-paint cell at zero old = refl
+bytes_of-paint cell at (suc n) old = ap (λ (bytes : List ℕ). painted (take 512 old) (cell at) ++ bytes) (bytes_of-paint cell (at + 1) n (drop 512 old))
+
+step_of : (m : ℕ) → 512 + 512 * m ≡ 512 * suc m
+step_of m = omega arith
+
+-- two runs side by side
+pub run-split : (cell : ℕ → Cell) (at m n : ℕ) (old : List ℕ) → run cell at (m + n) old ≡ run cell at m old ++ run cell (at + m) n (drop (512 * m) old)
+run-split cell at zero n old =
+    let e : zero + n ≡ n = omega arith in let d : at + 0 ≡ at = omega arith in rw (e, d) refl
+run-split cell at (suc m) n old =
+    let e : suc m + n ≡ suc (m + n) = omega arith in
+    let d : at + 1 + m ≡ at + suc m = omega arith in
+    let again : run cell (at + 1) (m + n) (drop 512 old) ≡ run cell (at + 1) m (drop 512 old) ++ run cell (at + suc m) n (drop (512 * suc m) old) =
+    run-split cell (at + 1) m n (drop 512 old)
+    ∙ ap (λ (k : ℕ). run cell (at + 1) m (drop 512 old) ++ run cell k n (drop (512 * m) (drop 512 old))) d
+    ∙ ap (λ (bytes : List ℕ). run cell (at + 1) m (drop 512 old) ++ run cell (at + suc m) n bytes) (drop-drop (512 * m) 512 old ∙ ap (λ (k : ℕ). drop k old) (step_of m)) in
+    ap (λ (k : ℕ). run cell at k old) e
+    ∙ ap (λ (bytes : List ℕ). painted (take 512 old) (cell at) ++ bytes) again
+    ∙ sym (append_assoc (painted (take 512 old) (cell at)) (run cell (at + 1) m (drop 512 old)) (run cell (at + suc m) n (drop (512 * suc m) old)))
+
+-- only the cells of the run count
+pub run-same : (f g : ℕ → Cell) (at n : ℕ) (old : List ℕ) → ((k : ℕ) → at ≤ k → k < at + n → f k ≡ g k) → run f at n old ≡ run g at n old
+run-same f g at zero old same = refl
+run-same f g at (suc n) old same =
+    ap (λ (cell : Cell). painted (take 512 old) cell ++ run f (at + 1) n (drop 512 old)) (same at (omega arith) (omega arith))
+    ∙ ap (λ (bytes : List ℕ). painted (take 512 old) (g at) ++ bytes) (run-same f g (at + 1) n (drop 512 old) (λ k low high. same k (omega arith) (omega arith)))
+
+-- under holes everything stays
+pub run-holes : (f : ℕ → Cell) (at n : ℕ) (old : List ℕ) → ((k : ℕ) → at ≤ k → k < at + n → f k ≡ Hole) → run f at n old ≡ take (512 * n) old
+run-holes f at zero old holes = refl
+run-holes f at (suc n) old holes =
+    ap (λ (cell : Cell). painted (take 512 old) cell ++ run f (at + 1) n (drop 512 old)) (holes at (omega arith) (omega arith))
+    ∙ ap (λ (bytes : List ℕ). take 512 old ++ bytes) (run-holes f (at + 1) n (drop 512 old) (λ k low high. holes k (omega arith) (omega arith)))
+    ∙ sym (take-add 512 (512 * n) old)
+    ∙ ap (λ (k : ℕ). take k old) (step_of n)
+
+-- under zeros there are zeros
+pub run-zeros : (f : ℕ → Cell) (at n : ℕ) (old : List ℕ) → ((k : ℕ) → at ≤ k → k < at + n → f k ≡ Zero) → run f at n old ≡ replicate {A = ℕ} (512 * n) 0
+unfolding zero_sector
+run-zeros f at zero old zeros = refl
+run-zeros f at (suc n) old zeros =
+    let none : List ℕ = replicate {A = ℕ} 512 0 in
+    ap (λ (cell : Cell). painted (take 512 old) cell ++ run f (at + 1) n (drop 512 old)) (zeros at (omega arith) (omega arith))
+    ∙ ap (λ (bytes : List ℕ). none ++ bytes) (run-zeros f (at + 1) n (drop 512 old) (λ k low high. zeros k (omega arith) (omega arith)))
+    ∙ replicate-append-replicate 512 (512 * n) 0
+    ∙ ap (λ (k : ℕ). replicate {A = ℕ} k 0) (step_of n)
+
+-- under sectors that follow one another in a file there are its bytes
+pub run-filled : (f : ℕ → Cell) (file : List ℕ) (at place n : ℕ) (old : List ℕ)
+    → ((k : ℕ) → k < n → f (at + k) ≡ Filled (sector_at file (place + k))) → run f at n old ≡ take (512 * n) (drop (512 * place) file)
+run-filled f file at place zero old filled = refl
+run-filled f file at place (suc n) old filled =
+    let here : f at ≡ Filled (sector_at file place) = ap f (let e : at ≡ at + 0 = omega arith in e) ∙ filled 0 (omega arith) ∙ ap (λ (k : ℕ). Filled (sector_at file k)) (let e : place + 0 ≡ place = omega arith in e) in
+    let more : (k : ℕ) → k < n → f (at + 1 + k) ≡ Filled (sector_at file (place + 1 + k)) =
+    λ k below. ap f (let e : at + 1 + k ≡ at + (k + 1) = omega arith in e) ∙ filled (k + 1) (omega arith) ∙ ap (λ (j : ℕ). Filled (sector_at file j)) (let e : place + (k + 1) ≡ place + 1 + k = omega arith in e) in
+    ap (λ (cell : Cell). painted (take 512 old) cell ++ run f (at + 1) n (drop 512 old)) here
+    ∙ ap (λ (bytes : List ℕ). sector_at file place ++ bytes) (run-filled f file (at + 1) (place + 1) n (drop 512 old) more)
+    ∙ ap (λ (bytes : List ℕ). take 512 (drop (512 * place) file) ++ take (512 * n) bytes) (ap (λ (k : ℕ). drop k file) (let e : 512 * (place + 1) ≡ 512 * place + 512 = omega arith in e) ∙ sym (drop-drop 512 (512 * place) file))
+    ∙ sym (take-add 512 (512 * n) (drop (512 * place) file))
+    ∙ ap (λ (k : ℕ). take k (drop (512 * place) file)) (step_of n)
