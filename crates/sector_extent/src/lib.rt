@@ -2,6 +2,7 @@
 //! as lists, the error for want of memory, and counts of faults and of steps that only contracts see.
 #![tactic(auto)]
 
+mod call_plan;
 mod extent;
 mod fault_count;
 mod found;
@@ -10,6 +11,7 @@ mod memory;
 mod rows;
 mod steps;
 
+pub use call_plan::CallPlan;
 pub use extent::Extent;
 pub use fault_count::FaultCount;
 pub use found::Found;
