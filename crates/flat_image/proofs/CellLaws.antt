@@ -3,7 +3,7 @@ use Rattle.std.proofs.Common.{◌≡◌, ℕ, ◌+◌, ◌-◌, ◌*◌, ◌/◌
 use Rattle.std.proofs.lemmas.List.{length-take-le}
 use Rattle.std.proofs.lemmas.Bool.Decides.{nat_tests}
 use Rattle.seg_mapping.specs.declared.Row.{Row}
-use Rattle.flat_image.specs.Sheets.{Cell, Hole, Zero, Filled}
+use Rattle.flat_image.specs.Sheets.{Cell, Hole, Zero, Filled, IsCell}
 use Rattle.flat_image.specs.RowCells.{sector_at, covers, cell_by, cell_of, AreLayerRows, end_of}
 
 -- the row does not speak of sectors before it or behind it, and of those between it does
@@ -67,16 +67,10 @@ cell_of-before file [] ys p hole = hole
 cell_of-before file (row ∷ xs) ys p hole =
     ap (λ (cell : Cell). cond (covers row p) (cell_by file row p) cell) (cell_of-before file xs ys p hole)
 
--- a cell that is filled has a whole sector
-abbrev pub IsWhole : Cell → Type 0
-IsWhole Hole = Unit {0}
-IsWhole Zero = Unit {0}
-IsWhole (Filled sector) = length sector ≡ 512
-
 whole_by : (file : List ℕ) (row : Row) (p index_at : ℕ) → (row.zeroed ≡ false → row.place + row.count ≤ index_at / 512) → index_at ≤ length file → p < row.offset + row.count → row.offset ≤ p
-    → IsWhole (cell_by file row p)
+    → IsCell (cell_by file row p)
 whole_by file row p index_at to within high low =
-    elim row.zeroed as (λ z. (z ≡ false → row.place + row.count ≤ index_at / 512) → IsWhole (cond z Zero (Filled (sector_at file (row.place + (p - row.offset)))))) [
+    elim row.zeroed as (λ z. (z ≡ false → row.place + row.count ≤ index_at / 512) → IsCell (cond z Zero (Filled (sector_at file (row.place + (p - row.offset)))))) [
       | true ↦ λ _. tt
       | false ↦ λ fits. let bound = fits refl in
           length-take-le 512 (drop (512 * (row.place + (p - row.offset))) file) (omega (arith, bound, length-drop (512 * (row.place + (p - row.offset))) file))
@@ -84,10 +78,10 @@ whole_by file row p index_at to within high low =
     to
 
 -- each cell that rows in the data of a file make is whole
-pub whole_cells : (file : List ℕ) (n index_at low : ℕ) (rows : List Row) → AreLayerRows n index_at low rows → index_at ≤ length file → (p : ℕ) → IsWhole (cell_of file rows p)
+pub whole_cells : (file : List ℕ) (n index_at low : ℕ) (rows : List Row) → AreLayerRows n index_at low rows → index_at ≤ length file → (p : ℕ) → IsCell (cell_of file rows p)
 whole_cells file n index_at low [] are within p = tt
 whole_cells file n index_at low (row ∷ rows) are within p =
-    elim (covers row p) as (λ b. covers row p ≡ b → IsWhole (cond b (cell_by file row p) (cell_of file rows p))) [
+    elim (covers row p) as (λ b. covers row p ≡ b → IsCell (cond b (cell_by file row p) (cell_of file rows p))) [
       | true ↦ λ on. whole_by file row p index_at are.0.place.to within (covers-below row p on) (covers-from row p on)
       | false ↦ λ off. whole_cells file n index_at (row.offset + row.count) rows are.1 within p
     ]

@@ -1,10 +1,10 @@
 -- Painting a run of sectors, as bytes.
-use Rattle.std.proofs.Common.{◌≡◌, ℕ, zero, suc, ◌+◌, ◌*◌, ◌<◌, ◌≤◌, List, [], ◌++◌, map, take, drop, refl, sym, ap, ◌∙◌, append_assoc, arith}
+use Rattle.std.proofs.Common.{◌≡◌, ℕ, zero, suc, ◌+◌, ◌*◌, ◌<◌, ◌≤◌, List, [], ◌++◌, length, map, take, drop, refl, sym, ap, ◌∙◌, append_assoc, arith, length-append, length-drop}
 use Rattle.std.proofs.Math.ListN.{replicate}
-use Rattle.std.proofs.Math.Seq.{take-add}
-use Rattle.std.proofs.lemmas.List.{drop-drop, replicate-append-replicate}
+use Rattle.std.proofs.Math.Seq.{take-add, take-append_seam, drop-append_seam}
+use Rattle.std.proofs.lemmas.List.{drop-drop, length-take-le, replicate-append-replicate}
 use Rattle.std.specs.List.{range_with_len}
-use Rattle.flat_image.specs.Sheets.{Cell, Hole, Zero, Filled, zero_sector, painted, paint, bytes_of, image_in}
+use Rattle.flat_image.specs.Sheets.{IsCell, Cell, Hole, Zero, Filled, zero_sector, painted, paint, bytes_of, image_in}
 use Rattle.flat_image.specs.RowCells.{sector_at}
 
 -- the bytes of n sectors from `at` on, painted with the cells of a function over what stands there
@@ -75,3 +75,38 @@ run-filled f file at place (suc n) old filled =
     ∙ ap (λ (bytes : List ℕ). take 512 (drop (512 * place) file) ++ take (512 * n) bytes) (ap (λ (k : ℕ). drop k file) (let e : 512 * (place + 1) ≡ 512 * place + 512 = omega arith in e) ∙ sym (drop-drop 512 (512 * place) file))
     ∙ sym (take-add 512 (512 * n) (drop (512 * place) file))
     ∙ ap (λ (k : ℕ). take k (drop (512 * place) file)) (step_of n)
+
+-- a cell over a sector makes a sector
+pub length-painted : (sector : List ℕ) (cell : Cell) → length sector ≡ 512 → IsCell cell → length (painted sector cell) ≡ 512
+unfolding zero_sector
+length-painted sector Hole size whole = size
+length-painted sector Zero size whole = refl
+length-painted sector (Filled new) size whole = whole
+
+-- painting keeps the number of bytes
+pub length-run : (f : ℕ → Cell) (at n : ℕ) (old : List ℕ) → ((k : ℕ) → IsCell (f k)) → 512 * n ≤ length old → length (run f at n old) ≡ 512 * n
+length-run f at zero old whole long = refl
+length-run f at (suc n) old whole long =
+    omega (
+      arith,
+      length-append (painted (take 512 old) (f at)) (run f (at + 1) n (drop 512 old)),
+      length-painted (take 512 old) (f at) (length-take-le 512 old (omega arith)) (whole at),
+      length-run f (at + 1) n (drop 512 old) whole (omega (arith, length-drop 512 old)),
+    )
+
+-- painting one after another, where each place is painted by one of the two at most
+pub run-run : (f g h : ℕ → Cell) (at n : ℕ) (old : List ℕ)
+    → ((k : ℕ) (sector : List ℕ) → painted (painted sector (f k)) (g k) ≡ painted sector (h k))
+    → ((k : ℕ) → IsCell (f k)) → 512 * n ≤ length old
+    → run g at n (run f at n old) ≡ run h at n old
+run-run f g h at zero old both whole long = refl
+run-run f g h at (suc n) old both whole long =
+    let here : List ℕ = painted (take 512 old) (f at) in
+    let size : length here ≡ 512 = length-painted (take 512 old) (f at) (length-take-le 512 old (omega arith)) (whole at) in
+    let more : List ℕ = run f (at + 1) n (drop 512 old) in
+    let front : take 512 (here ++ more) ≡ here = ap (λ (k : ℕ). take k (here ++ more)) (sym size) ∙ take-append_seam here more in
+    let back : drop 512 (here ++ more) ≡ more = ap (λ (k : ℕ). drop k (here ++ more)) (sym size) ∙ drop-append_seam here more in
+    ap (λ (bytes : List ℕ). painted bytes (g at) ++ run g (at + 1) n (drop 512 (here ++ more))) front
+    ∙ ap (λ (bytes : List ℕ). painted here (g at) ++ run g (at + 1) n bytes) back
+    ∙ ap (λ (bytes : List ℕ). bytes ++ run g (at + 1) n more) (both at (take 512 old))
+    ∙ ap (λ (bytes : List ℕ). painted (take 512 old) (h at) ++ bytes) (run-run f g h (at + 1) n (drop 512 old) both whole (omega (arith, length-drop 512 old)))

@@ -2,7 +2,7 @@
 use Rattle.std.specs.Prelude.{◌≡◌, ℕ, ◌+◌, ◌-◌, ◌*◌, ◌/◌, ◌≤◌, ◌&&◌, Bool, false, nat_le, nat_lt, if◌then◌else◌, List, [], ◌∷◌, map, take, drop}
 use Rattle.std.specs.List.{range_with_len}
 use Rattle.seg_mapping.specs.declared.Row.{Row}
-use Rattle.seg_mapping.specs.Rows.{RowOf}
+use Rattle.seg_mapping.specs.Rows.{Fits, RowOf}
 use Rattle.flat_image.specs.Sheets.{Cell, Hole, Zero, Filled}
 
 -- the sector of a file at that place, in sectors from its start
@@ -37,6 +37,7 @@ pub record IsInData (index_at : ℕ) (row : Row) : Type 0 where
 
 -- a row of a layer of n sectors, where the row before ends at `low`
 pub record IsLayerRow (n index_at low : ℕ) (row : Row) : Type 0 where
+  pub fits : Fits row
   pub order : low ≤ row.offset
   pub range : row.offset + row.count ≤ n
   pub place : IsInData index_at row

@@ -1,8 +1,8 @@
 -- Images, sheets, and how a sheet is painted over an image.
-use Rattle.std.specs.Prelude.{ℕ, zero, suc, List, [], ◌∷◌, replicate, take, drop}
+use Rattle.std.specs.Prelude.{◌≡◌, ℕ, zero, suc, ◌^◌, ◌≤◌, List, [], ◌∷◌, length, replicate, take, drop, All}
 use Rattle.std.specs.List.{concat, fold}
 
--- a sector of zeros; a sector has 512 bytes
+-- a sector of zeros
 unfoldable pub zero_sector : List ℕ
 zero_sector = replicate {A = ℕ} 512 0
 
@@ -12,7 +12,29 @@ pub data Cell : Type 0 where
   Zero : Cell
   Filled : List ℕ → Cell
 
--- an image is a list of sectors, and a sheet a list of cells
+-- a sector has 512 bytes
+abbrev pub IsSector : List ℕ → Type 0
+IsSector sector = length sector ≡ 512
+
+-- a cell that is filled has a sector
+abbrev pub IsCell : Cell → Type 0
+IsCell Hole = Unit {0}
+IsCell Zero = Unit {0}
+IsCell (Filled sector) = IsSector sector
+
+-- an image has 1 to 2^31 sectors
+pub record IsImage (n : ℕ) (image : List (List ℕ)) : Type 0 where
+  pub some : 1 ≤ n
+  pub few : n ≤ 2 ^ 31
+  pub count : length image ≡ n
+  pub sectors : All IsSector image
+
+-- a sheet has a cell for each sector of an image
+pub record IsSheet (n : ℕ) (sheet : List Cell) : Type 0 where
+  pub some : 1 ≤ n
+  pub few : n ≤ 2 ^ 31
+  pub count : length sheet ≡ n
+  pub cells : All IsCell sheet
 
 -- a sector of an image under a cell
 abbrev pub painted : List ℕ → Cell → List ℕ
@@ -20,9 +42,10 @@ painted old Hole = old
 painted old Zero = zero_sector
 painted old (Filled new) = new
 
--- the image under the sheet, place by place
+-- the image under the sheet, place by place; where the sheet is longer, over sectors of zeros
 abbrev pub paint : List (List ℕ) → List Cell → List (List ℕ)
-paint [] cells = []
+paint [] [] = []
+paint [] (cell ∷ cells) = painted zero_sector cell ∷ paint [] cells
 paint (sector ∷ sectors) [] = sector ∷ sectors
 paint (sector ∷ sectors) (cell ∷ cells) = painted sector cell ∷ paint sectors cells
 
