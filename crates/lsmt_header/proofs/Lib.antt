@@ -1,0 +1,4 @@
+pub mod TagLemmas
+pub mod BlockLemmas
+pub mod FaultLemmas
+pub mod Written

@@ -1,0 +1,4 @@
+pub mod Tags
+pub mod Blocks
+pub mod Faults
+pub mod RawFields
