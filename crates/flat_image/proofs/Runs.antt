@@ -2,7 +2,7 @@
 use Rattle.std.proofs.Common.{◌≡◌, ℕ, zero, suc, ◌+◌, ◌*◌, ◌<◌, ◌≤◌, List, [], ◌++◌, length, map, take, drop, refl, sym, ap, ◌∙◌, append_assoc, arith, length-append, length-drop}
 use Rattle.std.proofs.Math.ListN.{replicate}
 use Rattle.std.proofs.Math.Seq.{take-add, take-append_seam, drop-append_seam}
-use Rattle.std.proofs.lemmas.List.{drop-drop, length-take-le, replicate-append-replicate}
+use Rattle.std.proofs.lemmas.List.{drop-drop, length-take-le, replicate-append-replicate, take_all}
 use Rattle.std.specs.List.{range_with_len}
 use Rattle.flat_image.specs.Sheets.{IsCell, Cell, Hole, Zero, Filled, zero_sector, painted, paint, bytes_of, image_in}
 use Rattle.flat_image.specs.RowCells.{sector_at}
@@ -110,3 +110,19 @@ run-run f g h at (suc n) old both whole long =
     ∙ ap (λ (bytes : List ℕ). painted here (g at) ++ run g (at + 1) n bytes) back
     ∙ ap (λ (bytes : List ℕ). bytes ++ run g (at + 1) n more) (both at (take 512 old))
     ∙ ap (λ (bytes : List ℕ). painted (take 512 old) (h at) ++ bytes) (run-run f g h (at + 1) n (drop 512 old) both whole (omega (arith, length-drop 512 old)))
+
+-- between holes only a window changes
+pub run-window : (f : ℕ → Cell) (at a b d : ℕ) (old : List ℕ) → length old ≡ 512 * (a + (b + d))
+    → ((k : ℕ) → at ≤ k → k < at + a → f k ≡ Hole) → ((k : ℕ) → at + (a + b) ≤ k → k < at + (a + b) + d → f k ≡ Hole)
+    → run f at (a + (b + d)) old ≡ take (512 * a) old ++ (run f (at + a) b (drop (512 * a) old) ++ drop (512 * (a + b)) old)
+run-window f at a b d old size before behind =
+    let rest : List ℕ = drop (512 * a) old in
+    let back : List ℕ = drop (512 * b) rest in
+    let there : back ≡ drop (512 * (a + b)) old = drop-drop (512 * b) (512 * a) old ∙ ap (λ (k : ℕ). drop k old) (let e : 512 * a + 512 * b ≡ 512 * (a + b) = omega arith in e) in
+    let long : length back ≤ 512 * d = omega (arith, length-drop (512 * b) rest, length-drop (512 * a) old) in
+    let holes : (k : ℕ) → at + a + b ≤ k → k < at + a + b + d → f k ≡ Hole = λ k low high. behind k (omega arith) (omega arith) in
+    run-split f at a (b + d) old
+    ∙ ap (λ (bytes : List ℕ). bytes ++ run f (at + a) (b + d) rest) (run-holes f at a old before)
+    ∙ ap (λ (bytes : List ℕ). take (512 * a) old ++ bytes)
+      (run-split f (at + a) b d rest
+       ∙ ap (λ (bytes : List ℕ). run f (at + a) b rest ++ bytes) (run-holes f (at + a + b) d back holes ∙ take_all (512 * d) back long ∙ there))

@@ -1,3 +1,6 @@
+pub mod CanonicalFiles
 pub mod Entries
-pub mod Sheets
+pub mod LayerFiles
 pub mod RowCells
+pub mod Sheets
+pub mod Stacks
