@@ -1,0 +1,67 @@
+-- Which fault of a stack is the first one.
+use Rattle.std.specs.Prelude.{◌≡◌, ◌≢◌, ℕ, ◌<◌, ◌≤◌, List, [], ◌∷◌, ◌++◌, length, All, Some, slice_get}
+use Rattle.lsmt_header.specs.declared.head.Head.{Head}
+use Rattle.flat_image.specs.Stacks.{AreStacked, AreUnlike, nil_uuid}
+use Rattle.layer_stack.specs.declared.fault.StackFault.{StackFault}
+use Rattle.layer_stack.specs.declared.fault.StackFault.TheVariants.{Empty, TooMany, SizeDiffers, ParentDiffers, UuidTwice}
+
+-- the uuid of the uppermost of these heads, or the given one where there is none
+abbrev pub top_uuid : List ℕ → List Head → List ℕ
+top_uuid uuid [] = uuid
+top_uuid uuid (head ∷ above) = top_uuid head.uuid above
+
+-- the head has the sectors of the lowest of the heads below it
+abbrev pub HasSize : List Head → Head → Type 0
+HasSize [] head = Unit {0}
+HasSize (lowest ∷ above) head = head.sectors ≡ lowest.sectors
+
+-- the parent of the head is the uuid of the one below it, or nil where there is none
+abbrev pub HasParent : List Head → Head → Type 0
+HasParent below head = head.parent ≡ top_uuid nil_uuid below
+
+-- none of the heads below has the uuid of this one
+abbrev pub HasOwnUuid : List Head → Head → Type 0
+HasOwnUuid below head = All (λ other. other.uuid ≢ head.uuid) below
+
+-- the head below of that number has the uuid of this one
+abbrev pub SharesUuid : List Head → ℕ → Head → Type 0
+SharesUuid below number head = (other : Head) × (slice_get below number ≡ Some other) × (other.uuid ≡ head.uuid)
+
+-- a head over the heads below it has none of the faults
+pub record IsFreeOver (below : List Head) (head : Head) : Type 0 where
+  pub size : HasSize below head
+  pub parent : HasParent below head
+  pub uuid : HasOwnUuid below head
+
+-- the first fault of a head over the heads below it
+abbrev pub IsFaultOver : List Head → Head → StackFault → Type 0
+IsFaultOver below head (SizeDiffers number) = (number ≡ length below) × (HasSize below head → ⊥)
+IsFaultOver below head (ParentDiffers number) = (number ≡ length below) × HasSize below head × (HasParent below head → ⊥)
+IsFaultOver below head (UuidTwice first number) =
+    (number ≡ length below) × HasSize below head × HasParent below head × SharesUuid below first head
+IsFaultOver below head Empty = ⊥
+IsFaultOver below head (TooMany count) = ⊥
+
+-- each of the heads has none of the faults over those below it
+pub record AreFree (heads : List Head) : Type 0 where
+  pub sizes : (n : ℕ) × All (λ head. head.sectors ≡ n) heads
+  pub stacked : AreStacked nil_uuid heads
+  pub unlike : AreUnlike heads
+
+-- the lowest head that has a fault, and the first one that it has
+pub record IsLowestFault (heads : List Head) (fault : StackFault) : Type 0 where
+  pub few : length heads ≤ 255
+  pub below : List Head
+  pub head : Head
+  pub above : List Head
+  pub split : heads ≡ below ++ head ∷ above
+  pub free : AreFree below
+  pub is_fault : IsFaultOver below head fault
+
+-- the first fault of the heads of layers, the lowest first
+abbrev pub IsStackFault : List Head → StackFault → Type 0
+IsStackFault heads Empty = heads ≡ []
+IsStackFault heads (TooMany count) = (count ≡ length heads) × (255 < length heads)
+IsStackFault heads (SizeDiffers number) = IsLowestFault heads (SizeDiffers number)
+IsStackFault heads (ParentDiffers number) = IsLowestFault heads (ParentDiffers number)
+IsStackFault heads (UuidTwice first number) = IsLowestFault heads (UuidTwice first number)

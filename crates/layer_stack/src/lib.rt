@@ -1,0 +1,12 @@
+//! Whether layers form a stack: each layer names the one below it, all are of one size, and no uuid
+//! stands twice.
+#![tactic(auto)]
+
+mod checking;
+mod fault;
+
+pub use checking::check;
+pub use fault::StackFault;
+
+#[cfg(test)]
+mod tests;
