@@ -1,11 +1,11 @@
 -- Stacks that grow by one head, and what a fault says of a stack.
-use Rattle.std.proofs.Common.{◌≡◌, ◌≢◌, ℕ, ◌+◌, ◌<◌, ◌≤◌, List, [], ◌∷◌, ◌++◌, length, take, drop, get_or, refl, sym, ap, ◌∙◌, subst, arith, All, Some}
-use Rattle.std.specs.Prelude.{slice_get}
+use Rattle.std.proofs.Common.{◌≡◌, ◌≢◌, ℕ, ◌+◌, ◌<◌, ◌≤◌, List, [], ◌∷◌, ◌++◌, length, take, drop, get_or, refl, sym, ap, ◌∙◌, subst, arith, All}
 use Rattle.std.proofs.lemmas.List.Elements.{All-push, All-cons, All-nil, All-head, All-tail, All-get_or}
 use Rattle.std.proofs.lemmas.List.{take-append-drop, take_more, drop_more}
 use Rattle.std.proofs.lemmas.Option.{slice_get_within, get_or_from_slice_get}
 use Rattle.lsmt_header.specs.declared.head.Head.{Head}
-use Rattle.flat_image.specs.Stacks.{AreStacked, AreUnlike, Legal, nil_uuid}
+use Rattle.flat_image.specs.Stacks.{AreStacked, AreUnlike, Legal}
+use Rattle.lsmt_header.specs.Blocks.{nil}
 use Rattle.layer_stack.specs.declared.fault.StackFault.{StackFault}
 use Rattle.layer_stack.specs.declared.fault.StackFault.TheVariants.{Empty, TooMany, SizeDiffers, ParentDiffers, UuidTwice}
 use Rattle.layer_stack.specs.Faults.{top_uuid, HasSize, HasParent, HasOwnUuid, SharesUuid, IsFreeOver, IsFaultOver, AreFree, IsLowestFault, IsStackFault}
@@ -40,7 +40,7 @@ sizes-push (lowest ∷ below) head (n, sizes) same =
 pub AreFree-push : (below : List Head) (head : Head) → AreFree below → IsFreeOver below head → AreFree (below ++ head ∷ [])
 AreFree-push below head free over = record {
   sizes = sizes-push below head free.sizes over.size;
-  stacked = AreStacked-push nil_uuid below head free.stacked over.parent;
+  stacked = AreStacked-push nil below head free.stacked over.parent;
   unlike = AreUnlike-push below head free.unlike over.uuid;
 }
 
@@ -95,7 +95,7 @@ lowest_not_legal : (heads : List Head) (fault : StackFault) → IsLowestFault he
 lowest_not_legal heads fault lowest legal =
     let whole : Legal (lowest.below ++ lowest.head ∷ lowest.above) = subst Legal lowest.split legal in
     no_fault lowest.below lowest.head fault (HasSize-within whole.sizes.0 lowest.below lowest.head lowest.above whole.sizes.1)
-    (parent_within nil_uuid lowest.below lowest.head lowest.above whole.stacked)
+    (parent_within nil lowest.below lowest.head lowest.above whole.stacked)
     (HasOwnUuid-within lowest.below lowest.head lowest.above whole.unlike) lowest.is_fault
 
 -- heads with a fault form no stack

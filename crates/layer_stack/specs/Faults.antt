@@ -1,7 +1,8 @@
 -- Which fault of a stack is the first one.
 use Rattle.std.specs.Prelude.{◌≡◌, ◌≢◌, ℕ, ◌<◌, ◌≤◌, List, [], ◌∷◌, ◌++◌, length, All, Some, slice_get}
 use Rattle.lsmt_header.specs.declared.head.Head.{Head}
-use Rattle.flat_image.specs.Stacks.{AreStacked, AreUnlike, nil_uuid}
+use Rattle.flat_image.specs.Stacks.{AreStacked, AreUnlike}
+use Rattle.lsmt_header.specs.Blocks.{nil}
 use Rattle.layer_stack.specs.declared.fault.StackFault.{StackFault}
 use Rattle.layer_stack.specs.declared.fault.StackFault.TheVariants.{Empty, TooMany, SizeDiffers, ParentDiffers, UuidTwice}
 
@@ -17,7 +18,7 @@ HasSize (lowest ∷ above) head = head.sectors ≡ lowest.sectors
 
 -- the parent of the head is the uuid of the one below it, or nil where there is none
 abbrev pub HasParent : List Head → Head → Type 0
-HasParent below head = head.parent ≡ top_uuid nil_uuid below
+HasParent below head = head.parent ≡ top_uuid nil below
 
 -- none of the heads below has the uuid of this one
 abbrev pub HasOwnUuid : List Head → Head → Type 0
@@ -45,7 +46,7 @@ IsFaultOver below head (TooMany count) = ⊥
 -- each of the heads has none of the faults over those below it
 pub record AreFree (heads : List Head) : Type 0 where
   pub sizes : (n : ℕ) × All (λ head. head.sectors ≡ n) heads
-  pub stacked : AreStacked nil_uuid heads
+  pub stacked : AreStacked nil heads
   pub unlike : AreUnlike heads
 
 -- the lowest head that has a fault, and the first one that it has

@@ -1,6 +1,7 @@
 //! Looks at the heads of layers one after another, the lowest first.
 ghost use Rattle.std.specs.Prelude.{◌≡◌, ◌^◌, ◌<◌, ◌≤◌, ◌↔◌, length, IsOk, IfErr, IfNone, IfSome, OnOk};
-ghost use Rattle.flat_image.specs.Stacks.{Legal, nil_uuid};
+ghost use Rattle.flat_image.specs.Stacks.{Legal};
+ghost use Rattle.lsmt_header.specs.Blocks.{nil};
 ghost use Rattle.layer_stack.specs.Faults.{HasOwnUuid, IsFaultOver, IsFreeOver, IsStackFault, SharesUuid, top_uuid};
 
 use crate::fault::StackFault;
@@ -35,7 +36,7 @@ pub fn check(heads: &[Head]) -> Result<(), StackFault>
 /// The first fault of a head over the heads below it. `parent` is the uuid of the uppermost of these.
 fn check_over(below: &[Head], parent: &[u8; 16], head: &Head) -> Result<(), StackFault>
     requires few { length below.now ≤ 255 }
-    requires parent { parent.now ≡ top_uuid nil_uuid below.now }
+    requires parent { parent.now ≡ top_uuid nil below.now }
     ensures free { OnOk result (IsFreeOver below.now head.now) }
     ensures fault { IfErr result (IsFaultOver below.now head.now) }
 {

@@ -1,5 +1,6 @@
 use super::*;
 use lsmt_header::{Head, Kind, Tag};
+use std::alloc::{AllocError, Global};
 use std::test::Fail;
 
 /// The head of a layer without rows whose uuid and parent are sixteen times these bytes.
@@ -14,6 +15,14 @@ fn head_of(tag: Tag, (uuid, parent, sectors): (u8, u8, u64)) -> Head {
         parent: [parent; 16],
         tag,
     }
+}
+
+fn heads_of(alloc: Global, tag: Tag, layers: &[(u8, u8, u64)]) -> Result<Vec<Head>, AllocError> {
+    let mut heads = Vec::with_capacity(alloc, layers.len())?;
+    for layer in layers {
+        heads.push(head_of(tag, *layer))?;
+    }
+    Ok(heads)
 }
 
 #[test]
@@ -48,10 +57,7 @@ fn the_first_fault_is_answered(rt: HostRuntime) -> Result<(), Fail> {
         ),
     ];
     for (layers, answer) in cases {
-        let mut heads = Vec::new(rt.alloc());
-        for layer in layers {
-            heads.push(head_of(tag, *layer))?;
-        }
+        let heads = heads_of(rt.alloc(), tag, layers)?;
         assert!(rt; heads.len() < 4);
         assert_eq!(rt; check(&heads), answer, "{layers:?}");
     }

@@ -1,10 +1,10 @@
 use Rattle.std.proofs.Common.{◌≡◌, take}
-use Rattle.flat_image.specs.Stacks.{nil_uuid}
+use Rattle.lsmt_header.specs.Blocks.{nil}
 use Rattle.layer_stack.specs.Faults.{AreFree, top_uuid}
 use Rattle.layer_stack.proofs.checking.check.Given as goal
 
 abbrev pub invariant-loop-number : goal.invariant-loop-number
 invariant-loop-number l = record {
   free : AreFree (take l.number l.heads);
-  parent_is : l.parent ≡ top_uuid nil_uuid (take l.number l.heads);
+  parent_is : l.parent ≡ top_uuid nil (take l.number l.heads);
 }
