@@ -1,0 +1,4 @@
+mod FieldLaws
+pub mod InfoLaws
+pub mod OptionLaws
+pub mod RequestLaws

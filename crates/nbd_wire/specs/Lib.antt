@@ -1,0 +1,5 @@
+pub mod Numbers
+pub mod Hellos
+pub mod Options
+pub mod Infos
+pub mod Requests
