@@ -86,3 +86,8 @@ whole_cells file n index_at low (row ∷ rows) are within p =
       | false ↦ λ off. whole_cells file n index_at (row.offset + row.count) rows are.1 within p
     ]
     refl
+
+-- where rows in two parts end
+pub end_of-append : (low : ℕ) (xs ys : List Row) → end_of low (xs ++ ys) ≡ end_of (end_of low xs) ys
+end_of-append low [] ys = refl
+end_of-append low (row ∷ xs) ys = end_of-append (row.offset + row.count) xs ys

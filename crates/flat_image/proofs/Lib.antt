@@ -1,3 +1,4 @@
 pub mod CellLaws
 pub mod Entries
+pub mod LayerLaws
 pub mod Runs

@@ -124,5 +124,5 @@ run-window f at a b d old size before behind =
     run-split f at a (b + d) old
     ∙ ap (λ (bytes : List ℕ). bytes ++ run f (at + a) (b + d) rest) (run-holes f at a old before)
     ∙ ap (λ (bytes : List ℕ). take (512 * a) old ++ bytes)
-      (run-split f (at + a) b d rest
-       ∙ ap (λ (bytes : List ℕ). run f (at + a) b rest ++ bytes) (run-holes f (at + a + b) d back holes ∙ take_all (512 * d) back long ∙ there))
+    (run-split f (at + a) b d rest
+    ∙ ap (λ (bytes : List ℕ). run f (at + a) b rest ++ bytes) (run-holes f (at + a + b) d back holes ∙ take_all (512 * d) back long ∙ there))

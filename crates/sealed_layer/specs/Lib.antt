@@ -1,0 +1,5 @@
+pub mod Growing
+pub mod LayerFaults
+pub mod Layers
+pub mod Painting
+pub mod RowReading
