@@ -1,4 +1,10 @@
 pub mod CellLaws
 pub mod Entries
+pub mod ExampleFacts
+pub mod HistoryLaws
 pub mod LayerLaws
+pub mod Painting
+pub mod PlainExits
+pub mod PlainLaws
 pub mod Runs
+pub mod SpelledRows

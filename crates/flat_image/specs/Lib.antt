@@ -1,6 +1,17 @@
+pub mod Base
 pub mod CanonicalFiles
 pub mod Entries
+pub mod Examples
+pub mod Frozen
+pub mod History
+pub mod HistoryLaws
 pub mod LayerFiles
+pub mod LayerReading
+pub mod Left
+pub mod PlainParts
+pub mod PlainPorts
+pub mod Ports
 pub mod RowCells
+pub mod Sectors
 pub mod Sheets
 pub mod Stacks

@@ -1,6 +1,8 @@
 //! What a shared value stands for: a base and the history of acts since.
 /// One act of a history, with the number of the caller who did it. Histories are lists of entries.
-/// They stand in contracts alone, so no entry is made when a program runs.
+/// The history of a shared value stands in contracts alone: no entry of it is made when a program
+/// runs.
+#[derive(Drop)]
 pub struct Entry<A> {
     pub number: u64,
     pub act: A,

@@ -6,7 +6,7 @@ use Rattle.seg_mapping.specs.Rows.{RowOf}
 use Rattle.lsmt_header.specs.declared.head.Head.{Head}
 use Rattle.flat_image.specs.RowCells.{AreSpelled, IsLayerRow, end_of}
 use Rattle.flat_image.proofs.CellLaws.{rows_joined}
-use Rattle.flat_image.proofs.LayerLaws.{spelled_joined}
+use Rattle.flat_image.proofs.SpelledRows.{spelled_joined}
 use Rattle.sealed_layer.specs.Growing.{Grows}
 
 pub grown : (head : Head) (piece bytes : List ℕ) (old rows : List Row) (row : Row) → length old ≤ length rows → Grows head piece old rows

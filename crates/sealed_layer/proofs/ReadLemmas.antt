@@ -9,7 +9,7 @@ use Rattle.lsmt_header.specs.declared.head.Kind.TheVariants.{SealedHead}
 use Rattle.lsmt_header.specs.Blocks.{BlockOf}
 use Rattle.flat_image.specs.RowCells.{AreSpelled, AreLayerRows, end_of}
 use Rattle.flat_image.specs.LayerFiles.{IsFramed, IsIndexPlace}
-use Rattle.flat_image.proofs.LayerLaws.{spelled_joined, spelled_in, piece_row}
+use Rattle.flat_image.proofs.SpelledRows.{spelled_joined, spelled_in, piece_row}
 use Rattle.sealed_layer.specs.declared.fault.LayerFault.{LayerFault}
 use Rattle.sealed_layer.specs.declared.fault.LayerFault.TheVariants as f
 use Rattle.sealed_layer.specs.Growing.{Grows}

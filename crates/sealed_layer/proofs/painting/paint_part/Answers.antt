@@ -2,7 +2,7 @@ use Rattle.std.proofs.Common.{false, ℕ, List, refl, ◌∙◌, subst, arith}
 use Rattle.std.proofs.lemmas.Option.{IfSome_then}
 use Rattle.layer_shelf.specs.Shelves.{file_at}
 use Rattle.seg_mapping.specs.declared.Row.{Row}
-use Rattle.flat_image.proofs.LayerLaws.{index_within}
+use Rattle.flat_image.proofs.SpelledRows.{index_within}
 use Rattle.sealed_layer.specs.Layers.{IsLayerIndex}
 use Rattle.sealed_layer.specs.Painting.{Paints}
 use Rattle.sealed_layer.proofs.PartLemmas.{row_at, rest_rows, none_painted, next_painted, rest_painted, none_behind, none_left, in_data_of_any}

@@ -1,0 +1,68 @@
+-- What the definitions give of the small histories.
+use Rattle.std.proofs.Common.{◌≡◌, ℕ, false, ◌∷◌, [], List, refl, inl, lit<, lit≤, ap, take, drop}
+use Rattle.std.proofs.Math.ListN.{replicate}
+use Rattle.std.proofs.lemmas.List.Elements.{All-nil, All-cons}
+use Rattle.flat_image.specs.declared.act.Act.{Act}
+use Rattle.flat_image.specs.declared.act.Act.TheVariants.{Write}
+use Rattle.flat_image.specs.declared.stands.Entry.{Entry}
+use Rattle.flat_image.specs.Sheets.{Cell, zero_sector, paint, bytes_of}
+use Rattle.flat_image.specs.Sectors.{sectors_in, put_at}
+use Rattle.flat_image.specs.Base.{holes}
+use Rattle.flat_image.specs.Entries.{entry}
+use Rattle.flat_image.specs.History.{keeps}
+use Rattle.flat_image.specs.Examples.{sector, flushed, WritesAndCommit, FlushAndCrash, LanesOverLayer, FullTop}
+
+pub writes_and_commit : WritesAndCommit
+unfolding sectors_in put_at zero_sector
+writes_and_commit = record {
+  read = refl;
+  rows = refl;
+  sectors = refl;
+  kept_none = refl;
+  frozen_sheet = refl;
+  used_again = refl;
+  in_progress = refl;
+  over = refl;
+  layer = refl;
+  read_again = refl;
+}
+
+abbrev IsUnkept : Entry Act → Type 0
+IsUnkept e = keeps e.act ≡ false
+
+pub flush_and_crash : FlushAndCrash
+unfolding sectors_in put_at zero_sector
+flush_and_crash = record {
+  place = refl;
+  kept_read = refl;
+  whole_read = refl;
+  first_alone = record {
+    front = take 2 flushed;
+    kept = record {
+      rest = entry 0 (Write 1 (sector 0x62)) ∷ [];
+      splits = refl;
+      unkept = All-cons IsUnkept (entry 0 (Write 1 (sector 0x62))) [] refl (All-nil IsUnkept);
+    };
+    is = inl refl;
+  };
+  both = record { front = flushed; kept = record { rest = []; splits = refl; unkept = All-nil IsUnkept }; is = inl refl };
+}
+
+-- an image of four sectors over a sheet
+over_sheet : List Cell → List (List ℕ)
+over_sheet sheet = paint (paint (replicate 4 zero_sector) sheet) (holes 4)
+
+pub lanes_and_commit : LanesOverLayer
+unfolding sectors_in put_at zero_sector over_sheet
+lanes_and_commit layer e = record {
+  before = ap (λ s. bytes_of (take 1 (drop 1 (over_sheet s)))) e;
+  behind = ap (λ s. bytes_of (take 2 (drop 1 (put_at 1 (sectors_in (sector 0x7A)) (over_sheet s))))) e;
+  place = refl;
+  sheet = refl;
+  layers = refl;
+  own = refl;
+}
+
+pub full_top : FullTop
+full_top = record
+    { large = refl; larger = refl; over = inl (lit< tt); room = record { rows_fit = lit≤ tt; sectors_fit = lit≤ tt } }

@@ -1,0 +1,15 @@
+use Rattle.flat_image.proofs.HistoryLaws.{top_since-freeze, used-sum, freeze-takes_top, seal-adds_file, kept-is_place, kept-reaches, base-stays, after-is_image, base-is_image}
+use Rattle.flat_image.proofs.laws.history_laws.Goals as goal
+
+pub returns : goal.returns
+returns c = record {
+  top = top_since-freeze;
+  used = used-sum;
+  freeze = freeze-takes_top;
+  seal = seal-adds_file;
+  kept = kept-is_place;
+  left = kept-reaches;
+  base = base-stays;
+  image = after-is_image;
+  whole = base-is_image;
+}

@@ -1,0 +1,48 @@
+use Rattle.std.proofs.Common.{◌+◌, ◌*◌, ℕ, ap, ◌∙◌, subst}
+use Rattle.std.proofs.Math.ListN.{replicate}
+use Rattle.std.specs.Vec.{with_items}
+use Rattle.std.proofs.lemmas.List.{with_items_is}
+use Rattle.flat_image.specs.Sectors.{put_at}
+use Rattle.std.proofs.lemmas.Result.{err_from_is_err_and}
+use Rattle.flat_image.specs.declared.act.Act.TheVariants.{Zero}
+use Rattle.flat_image.specs.History.{HasRoom, IsOver}
+use Rattle.flat_image.specs.PlainParts.{view_of}
+use Rattle.flat_image.proofs.PlainExits.{change-worn, change-full, change-refused, zero-done}
+use Rattle.flat_image.proofs.plain_port.PlainParts.zero.Goals as goal
+
+pub returns-in_err-fails : goal.returns-in_err-fails
+returns-in_err-fails c =
+    let p = err_from_is_err_and c.from_residual.result c.from_residual.ensures.1 in
+    let worn = c.in_err-fails.ensures.worn in
+    rw (p.1, p.2, worn.0)
+    (change-worn (view_of c.args.self.now) c.begin.new.plan c.requires.plain c.in_err-fails.ensures.counted (Zero c.args.at c.args.count) _ worn.1)
+
+pub returns-in_err-test_room : goal.returns-in_err-test_room
+returns-in_err-test_room c =
+    let b = c.in_ok-fails.ensures in
+    let p = err_from_is_err_and c.from_residual-in_err-test_room.result c.from_residual-in_err-test_room.ensures.1 in
+    let over = c.in_err-test_room.ensures.room in
+    rw (p.1, p.2)
+    (change-full (view_of c.args.self.now) c.begin.new.plan c.requires.plain b.counted (Zero c.args.at c.args.count) _ _ b.open.0
+    (over.0, subst (λ k. IsOver (c.args.self.now.rows + k) (c.args.self.now.filled + 0)) c.rows_needed-rows.ensures over.1))
+
+pub returns-in_err-note : goal.returns-in_err-note
+returns-in_err-note c =
+    let b = c.in_ok-fails.ensures in
+    let p = err_from_is_err_and c.from_residual-in_err-note.result c.from_residual-in_err-note.ensures.1 in
+    let room = c.in_ok-test_room.ensures.room in
+    rw (p.1, p.2)
+    (change-refused (view_of c.args.self.now) c.begin.new.plan c.requires.plain b.counted c.in_ok-fails.fails b.open.0 b.open.1
+    c.note.new.entries.items c.note.new.faults.count (Zero c.args.at c.args.count) _ _
+    (subst (λ k. HasRoom (c.args.self.now.rows + k) (c.args.self.now.filled + 0)) c.rows_needed-rows.ensures room)
+    c.in_err-note.ensures.noted)
+
+pub returns : goal.returns
+returns c =
+    let b = c.in_ok-fails.ensures in
+    let room = c.in_ok-test_room.ensures.room in
+    zero-done (view_of c.args.self.now) c.begin.new.plan c.requires.plain b.counted c.in_ok-fails.fails b.open.0 b.open.1
+    c.note.new.entries.items c.note.new.faults.count c.args.at c.args.count (with_items c.args.self.now.image c.wipe.new.image).items _ c.requires.within
+    (subst (λ k. HasRoom (c.args.self.now.rows + k) (c.args.self.now.filled + 0)) c.rows_needed-rows.ensures room)
+    c.in_ok-note.ensures.noted (with_items_is c.args.self.now.image c.wipe.new.image (c.wipe.auto.image ∙ c.as_mut_slice.ensures.len)
+    ∙ (c.wipe.ensures ∙ ap (λ l. put_at (512 * c.args.at) (replicate {A = ℕ} (512 * c.args.count) 0) l) c.as_mut_slice.ensures.value)) (ap (λ k. c.args.self.now.rows + k) c.rows_needed-rows.ensures)

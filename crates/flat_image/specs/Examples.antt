@@ -1,0 +1,91 @@
+-- Small histories, and what the definitions give of them.
+use Rattle.std.specs.Prelude.{◌≡◌, ℕ, List, [], ◌∷◌, ◌++◌, take, replicate, Some, None}
+use Rattle.sector_extent.specs.Rows.{rows_for}
+use Rattle.flat_image.specs.declared.act.Act.TheVariants.{Read, Write, Zero, Flush, Freeze, Seal}
+use Rattle.flat_image.specs.declared.base.Base.{Base}
+use Rattle.flat_image.specs.Sheets.{Cell, Hole, Filled}
+use Rattle.flat_image.specs.Sheets as sheets
+use Rattle.lsmt_header.specs.Blocks.{nil}
+use Rattle.flat_image.specs.CanonicalFiles.{file_of}
+use Rattle.flat_image.specs.LayerReading.{sheet_in, uuid_in}
+use Rattle.flat_image.specs.Base.{fresh}
+use Rattle.flat_image.specs.Entries.{entry, calls_by}
+use Rattle.flat_image.specs.History.{History, now, reply, committed, frozen, pending, used_rows, used_sectors, kept, sheet_at}
+use Rattle.flat_image.specs.Left.{Left}
+use Rattle.flat_image.specs.Ports.{IsOverFor, HasRoomFor}
+
+-- a sector of one byte, and a uuid of one byte
+abbrev pub sector : ℕ → List ℕ
+sector byte = replicate 512 byte
+
+abbrev pub uuid : ℕ → List ℕ
+uuid byte = replicate 16 byte
+
+-- three sectors are written, the second of them again, and the third is made zero
+abbrev pub writes : History
+writes =
+    entry 0 (Write 3 (sector 0x61 ++ sector 0x62 ++ sector 0x63))
+    ∷ entry 0 (Write 4 (sector 0x64))
+    ∷ entry 0 (Zero 5 1)
+    ∷ []
+
+abbrev pub written_sheet : List Cell
+written_sheet = Hole ∷ Hole ∷ Hole ∷ Filled (sector 0x61) ∷ Filled (sector 0x64) ∷ sheets.Zero ∷ Hole ∷ Hole ∷ []
+
+pub record WritesAndCommit : Type 0 where
+  pub read : reply (fresh 8 []) writes 3 3 ≡ sector 0x61 ++ sector 0x64 ++ sector 0
+  pub rows : used_rows (fresh 8 []) writes ≡ 3
+  pub sectors : used_sectors (fresh 8 []) writes ≡ 4
+  pub kept_none : kept writes ≡ 0
+  pub frozen_sheet : frozen (fresh 8 []) (writes ++ entry 1 (Freeze (uuid 0x22)) ∷ []) ≡ Some (record { uuid = uuid 0x22; sheet = written_sheet })
+  pub used_again : used_rows (fresh 8 []) (writes ++ entry 1 (Freeze (uuid 0x22)) ∷ []) ≡ 0
+  pub in_progress : pending (fresh 8 []) (writes ++ entry 1 (Freeze (uuid 0x22)) ∷ []) ≡ Some (uuid 0x22)
+  pub over : pending (fresh 8 []) (writes ++ entry 1 (Freeze (uuid 0x22)) ∷ entry 1 (Seal (uuid 0x22)) ∷ []) ≡ None
+  pub layer : committed (fresh 8 []) (writes ++ entry 1 (Freeze (uuid 0x22)) ∷ entry 1 (Seal (uuid 0x22)) ∷ [])
+      ≡ file_of (uuid 0x22) nil written_sheet ∷ []
+  pub read_again : reply (fresh 8 []) (writes ++ entry 1 (Freeze (uuid 0x22)) ∷ entry 1 (Seal (uuid 0x22)) ∷ []) 3 3
+      ≡ sector 0x61 ++ sector 0x64 ++ sector 0
+
+-- a sector is written and flushed, and then another one is written
+abbrev pub flushed : History
+flushed = entry 0 (Write 0 (sector 0x61)) ∷ entry 0 Flush ∷ entry 0 (Write 1 (sector 0x62)) ∷ []
+
+pub record FlushAndCrash : Type 0 where
+  pub place : kept flushed ≡ 2
+  pub kept_read : reply (fresh 8 []) (take (kept flushed) flushed) 0 2 ≡ sector 0x61 ++ sector 0
+  pub whole_read : reply (fresh 8 []) flushed 0 2 ≡ sector 0x61 ++ sector 0x62
+  pub first_alone : Left (fresh 8 []) flushed (now (fresh 8 []) (take 2 flushed))
+  pub both : Left (fresh 8 []) flushed (now (fresh 8 []) flushed)
+
+-- two callers and a commit, over one layer
+abbrev pub lanes : History
+lanes =
+    entry 0 (Read 1 1)
+    ∷ entry 1 (Write 1 (sector 0x7A))
+    ∷ entry 1 Flush
+    ∷ entry 2 (Freeze (uuid 0x22))
+    ∷ entry 2 (Seal (uuid 0x22))
+    ∷ []
+
+pub record LanesAndCommit (layer : List ℕ) : Type 0 where
+  pub before : reply (fresh 4 (layer ∷ [])) [] 1 1 ≡ sector 0x61
+  pub behind : reply (fresh 4 (layer ∷ [])) lanes 1 2 ≡ sector 0x7A ++ sector 0x62
+  pub place : kept lanes ≡ 4
+  pub sheet : sheet_at (fresh 4 (layer ∷ [])) lanes 3 ≡ Hole ∷ Filled (sector 0x7A) ∷ Hole ∷ Hole ∷ []
+  pub layers : committed (fresh 4 (layer ∷ [])) lanes
+      ≡ file_of (uuid 0x22) (uuid_in layer) (Hole ∷ Filled (sector 0x7A) ∷ Hole ∷ Hole ∷ []) ∷ []
+  pub own : calls_by 1 lanes ≡ entry 1 (Write 1 (sector 0x7A)) ∷ entry 1 Flush ∷ []
+
+-- a layer with two sectors of 0x61 and 0x62 at sector 1
+abbrev pub LanesOverLayer : Type 0
+LanesOverLayer = (layer : List ℕ) → sheet_in layer ≡ Hole ∷ Filled (sector 0x61) ∷ Filled (sector 0x62) ∷ Hole ∷ [] → LanesAndCommit layer
+
+-- a top that is nearly full
+abbrev pub nearly_full : Base
+nearly_full = record (fresh 131072 []) { rows = 4194300 }
+
+pub record FullTop : Type 0 where
+  pub large : rows_for 65536 ≡ 5
+  pub larger : rows_for 8388607 ≡ 513
+  pub over : IsOverFor nearly_full [] (Zero 0 65536)
+  pub room : HasRoomFor nearly_full [] (Zero 0 65532)

@@ -1,0 +1,99 @@
+-- What the definitions along a history come to, in other words.
+use Rattle.std.specs.Prelude.{◌≡◌, ℕ, suc, ◌+◌, ◌≤◌, ◌⊎◌, ◌↔◌, Bool, true, false, if◌then◌else◌, List, [], ◌∷◌, ◌++◌, length, drop, fold, sum_by, All, Some, ⊤}
+use Rattle.std.specs.List.{list_any}
+use Rattle.flat_image.specs.declared.act.Act.{Act}
+use Rattle.flat_image.specs.declared.act.Act.TheVariants.{Read, Write, Zero, Flush, Freeze, Seal, Fault}
+use Rattle.flat_image.specs.declared.base.Base.{Base}
+use Rattle.flat_image.specs.declared.stands.Entry.{Entry}
+use Rattle.flat_image.specs.Sheets.{Cell, IsImage}
+use Rattle.flat_image.specs.Frozen.{Frozen}
+use Rattle.flat_image.specs.CanonicalFiles.{file_of}
+use Rattle.flat_image.specs.LayerReading.{IsLayer}
+use Rattle.flat_image.specs.Base.{holes, top_uuid, image_of, IsBase}
+use Rattle.flat_image.specs.Entries.{entry, StartsWith}
+use Rattle.flat_image.specs.History.{History, step, now, after, written, rows_taken, sectors_taken, committed, frozen, pending, sheet_at, used_rows, used_sectors, keeps, kept, Proper}
+use Rattle.flat_image.specs.Left.{Kept}
+
+abbrev pub freezes : Act → Bool
+freezes (Read at count) = false
+freezes (Write at bytes) = false
+freezes (Zero at count) = false
+freezes Flush = false
+freezes (Freeze uuid) = true
+freezes (Seal uuid) = false
+freezes (Fault asked) = false
+
+abbrev pub has_freeze : History → Bool
+has_freeze history = list_any (λ e. freezes e.act) history
+
+-- the entries after the last Freeze, or all where there is none
+abbrev pub since_freeze : History → History
+since_freeze [] = []
+since_freeze (e ∷ es) = if has_freeze es then since_freeze es else if freezes e.act then es else e ∷ es
+
+-- the top: from holes at the last Freeze, or from the base's own, each write and each zero since
+abbrev pub TopIsSinceFreeze : Base → History → Type 0
+TopIsSinceFreeze base history =
+    (now base history).top
+    ≡ fold (λ sheet e. written sheet e.act) (if has_freeze history then holes base.sectors else base.top) (since_freeze history)
+
+-- what is used: the sums since the last Freeze, and what the base had used where there is none
+pub record UsedIsSum (base : Base) (history : History) : Type 0 where
+  pub rows : used_rows base history
+      ≡ (if has_freeze history then 0 else base.rows) + sum_by (λ e. rows_taken e.act) (since_freeze history)
+  pub sectors : used_sectors base history
+      ≡ (if has_freeze history then 0 else base.filled) + sum_by (λ e. sectors_taken e.act) (since_freeze history)
+
+-- a Freeze freezes the top as it stands there
+abbrev pub FreezeTakesTop : Base → History → Type 0
+FreezeTakesTop base history =
+    (number : ℕ) (uuid : List ℕ)
+    → frozen base (history ++ entry number (Freeze uuid) ∷ []) ≡ Some (record { uuid = uuid; sheet = sheet_at base (history ++ entry number (Freeze uuid) ∷ []) (length history) })
+
+-- a Seal adds the canonical file of the frozen sheet, over the uppermost file before it, and nothing else adds one
+pub record SealAddsFile (base : Base) (history : History) : Type 0 where
+  pub seal : (number : ℕ) (uuid : List ℕ) → pending base history ≡ Some uuid
+      → (sheet : List Cell) × (frozen base history ≡ Some (record { uuid = uuid; sheet = sheet }))
+      × (committed base (history ++ entry number (Seal uuid) ∷ [])
+      ≡ committed base history ++ file_of uuid (top_uuid (base.lowers ++ committed base history)) sheet ∷ [])
+  pub other : (number : ℕ) (act : Act) → (committed base (history ++ entry number act ∷ []) ≡ committed base history) ⊎ ((uuid : List ℕ) × (act ≡ Seal uuid))
+
+-- what is kept is a place of the history, behind which nothing keeps
+pub record KeptIsPlace (history : History) : Type 0 where
+  pub within : kept history ≤ length history
+  pub unkept : All (λ e. keeps e.act ≡ false) (drop (kept history) history)
+  pub keeping : (front : History) (e : Entry Act) (rest : History) → history ≡ front ++ e ∷ rest → keeps e.act ≡ true → suc (length front) ≤ kept history
+  pub least : (kept history ≡ 0)
+      ⊎ ((front : History) × (e : Entry Act) × (rest : History)
+      × (history ≡ front ++ e ∷ rest) × (keeps e.act ≡ true) × (kept history ≡ suc (length front)))
+
+-- a beginning has all that is kept just where it reaches to that place
+abbrev pub KeptReaches : History → History → Type 0
+KeptReaches history front = Kept history front ↔ (StartsWith history front × (kept history ≤ length front))
+
+-- where a sheet is sealed, its file is that of a layer with that sheet
+abbrev pub ReadsBack : Base → Act → Type 0
+ReadsBack base (Read at count) = ⊤
+ReadsBack base (Write at bytes) = ⊤
+ReadsBack base (Zero at count) = ⊤
+ReadsBack base Flush = ⊤
+ReadsBack base (Freeze uuid) = ⊤
+ReadsBack base (Seal uuid) =
+    (f : Frozen) → base.frozen ≡ Some f → IsLayer base.sectors f.uuid f.sheet (file_of f.uuid (top_uuid (base.lowers ++ base.done)) f.sheet)
+ReadsBack base (Fault asked) = ⊤
+
+abbrev pub AllReadBack : Base → History → Type 0
+AllReadBack base [] = ⊤
+AllReadBack base (e ∷ es) = ReadsBack base e.act × AllReadBack (step base e.act) es
+
+-- from a base, a proper history leads to a base again
+abbrev pub BaseStays : Base → History → Type 0
+BaseStays base history = IsBase base → Proper base history → AllReadBack base history → IsBase (now base history)
+
+-- the image after a history is the image of what the history made
+abbrev pub AfterIsImage : Base → History → Type 0
+AfterIsImage base history = IsBase base → Proper base history → AllReadBack base history → image_of (now base history) ≡ after base history
+
+-- what a base reads as is an image
+abbrev pub BaseIsImage : Base → Type 0
+BaseIsImage base = IsBase base → IsImage base.sectors (image_of base)

@@ -1,0 +1,18 @@
+ghost use Rattle.std.specs.Prelude.{List};
+ghost use Rattle.flat_image.specs.History.{History};
+ghost use Rattle.flat_image.specs.HistoryLaws.{TopIsSinceFreeze, UsedIsSum, FreezeTakesTop, SealAddsFile, KeptIsPlace, KeptReaches, BaseStays, AfterIsImage, BaseIsImage};
+
+use crate::base::Base;
+
+/// What the definitions along a history come to, in other words.
+pub fn history_laws()
+    ensures top { (base : Base) (history : History) → TopIsSinceFreeze base history }
+    ensures used { (base : Base) (history : History) → UsedIsSum base history }
+    ensures freeze { (base : Base) (history : History) → FreezeTakesTop base history }
+    ensures seal { (base : Base) (history : History) → SealAddsFile base history }
+    ensures kept { (history : History) → KeptIsPlace history }
+    ensures left { (history front : History) → KeptReaches history front }
+    ensures base { (base : Base) (history : History) → BaseStays base history }
+    ensures image { (base : Base) (history : History) → AfterIsImage base history }
+    ensures whole { (base : Base) → BaseIsImage base }
+{}
