@@ -1,0 +1,5 @@
+pub mod Calls
+pub mod Copies
+pub mod Marks
+pub mod Moments
+pub mod Puts

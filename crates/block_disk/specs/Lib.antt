@@ -1,0 +1,13 @@
+pub mod ChangeLaws
+pub mod Changes
+pub mod Claims
+pub mod DiskState
+pub mod FileMap
+pub mod History
+pub mod HistoryLaws
+pub mod HistoryState
+pub mod MemDisk
+pub mod Pieces
+pub mod Plan
+pub mod Replay
+pub mod Untold
