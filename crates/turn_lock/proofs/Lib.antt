@@ -1,0 +1,5 @@
+pub mod Dealing
+pub mod Ending
+pub mod Gathering
+pub mod Steps
+pub mod Takes
