@@ -56,15 +56,18 @@ module _ {V A B : Type 0} (stands : V → B → ℕ → List (Entry A) → Type 
       let r = f.1.0 in
       let at = f.1.1 in
       let free : r.held ≡ 0 = (omega (arith, r.bit, idle s r id v at none_held all)) in
-      let slot = r.free free in
-      (slot.0, f.4 0 (Some slot.0) (ap (λ l. get_elem? l 0) slot.1), record {
-        history = r.log;
-        owner = r.owner;
-        at = id;
-        stood = slot.2;
-        backed = backs r.log r.held r.holder r.maker r.next r.owner id v (r.each_seat id v at);
-        no_others = λ k le. r.unborn k (omega (arith, r.limit, le));
-      })
+      let slot = r.free free in (
+        slot.0,
+        f.4 0 (Some slot.0) (ap (λ l. get_elem? l 0) slot.1),
+        record {
+          history = r.log;
+          owner = r.owner;
+          at = id;
+          stood = slot.2;
+          backed = backs r.log r.held r.holder r.maker r.next r.owner id v (r.each_seat id v at);
+          no_others = λ k le. r.unborn k (omega (arith, r.limit, le));
+        },
+      )
 
   -- so the slot has a value
   pub ends_some : (id : ℕ) (v : View A) (ws : List ℕ) (xs : List (Option V)) (slot : Option V) → v.holds ≡ 0 → ((k : ℕ) → k < seats → (seen : List (Entry A)) × Has v k seen)

@@ -113,11 +113,15 @@ module _ {V A B : Type 0} (stands : V → B → ℕ → List (Entry A) → Type 
   -- what the seats had seen is in the history with which the lock ends
   pub closes : (lock : TableId) (n : ℕ) (all : List (Place A)) (v : View A) (value : V) → AreSeats lock n all → Gathers all v → Ends stands base first n value v
       → (history : List (Entry A)) × stands value base first history × IsHistory all history
-  closes lock n all v value seats g e = (e.history, e.stood, record {
-    begins = λ k s at. (g k s at e.history e.owner e.at e.backed).begun;
-    own = λ k s at. ((g k s at e.history e.owner e.at e.backed).own k refl).1;
-    no_others = λ k le. e.no_others k (omega (arith, seats.all, le));
-  })
+  closes lock n all v value seats g e = (
+    e.history,
+    e.stood,
+    record {
+      begins = λ k s at. (g k s at e.history e.owner e.at e.backed).begun;
+      own = λ k s at. ((g k s at e.history e.owner e.at e.backed).own k refl).1;
+      no_others = λ k le. e.no_others k (omega (arith, seats.all, le));
+    },
+  )
 
   -- each number below the count is one of a seat
   pub all_gathered : (lock : TableId) (n : ℕ) (all : List (Place A)) (v : View A) → AreSeats lock n all → Gathers all v → (k : ℕ) → k < n → (seen : List (Entry A)) × Has v k seen

@@ -46,8 +46,11 @@ module _ {A : Type 0} where
       → (u : View A) × (get_elem? (set views id w) holder ≡ some u) × (u.holds ≡ 1)
   still_holds views holder id v w at same h =
       dite (ℕ_discrete holder id)
-      (λ e. (w, subst (λ k. get_elem? (set views id w) k ≡ some w) (sym e) (set_there views id v w at),
-      same ∙ (ap (λ (x : View A). x.holds) (some-injective v h.0 (sym at ∙ subst (λ k. get_elem? views k ≡ some h.0) e h.1)) ∙ h.2)))
+      (λ e. (
+        w,
+        subst (λ k. get_elem? (set views id w) k ≡ some w) (sym e) (set_there views id v w at),
+        same ∙ (ap (λ (x : View A). x.holds) (some-injective v h.0 (sym at ∙ subst (λ k. get_elem? views k ≡ some h.0) e h.1)) ∙ h.2),
+      ))
       (λ ne. (h.0, set_else views id holder w ne ∙ h.1, h.2))
 
 module _ {V A B : Type 0} (stands : V → B → ℕ → List (Entry A) → Type 0) (base : B) (first seats : ℕ) where
@@ -65,7 +68,12 @@ module _ {V A B : Type 0} (stands : V → B → ℕ → List (Entry A) → Type 
   unmoved : (s : State (Option V) (View A)) (r : Rule s) (id : ℕ) (v w : View A) (ws : List ℕ) → ws ≡ s.words → get_elem? s.views id ≡ some v → w.holds ≡ v.holds → Known s r id w
       → Rule record { words = ws; homes = s.homes; views = set s.views id w }
   unmoved s r id v w ws same at holds knows = record {
-    log = r.log; held = r.held; holder = r.holder; maker = r.maker; next = r.next; owner = r.owner;
+    log = r.log;
+    held = r.held;
+    holder = r.holder;
+    maker = r.maker;
+    next = r.next;
+    owner = r.owner;
     word = same ∙ r.word;
     room = r.room;
     bit = r.bit;
@@ -100,17 +108,23 @@ module _ {V A B : Type 0} (stands : V → B → ℕ → List (Entry A) → Type 
 
   pub look : (slots id : ℕ) (m : My) → Allows Rule slots id m 0 (λ n. n) (Looked first m)
   look slots id m s r len at lt =
-      let knows = r.each_seat id m.0 at in
-      (record m.0 { seen = r.log; kept = [] }, keeps, tt,
-      unmoved s r id m.0 record m.0 { seen = r.log; kept = [] } _ (same_word s.words) at refl (seeing s r id m.0 knows),
-      record { log = r.log; held = r.held; after = refl; sees = sees s r id m.0 knows; word = found_is s r; bit = r.bit; room = r.room })
+      let knows = r.each_seat id m.0 at in (
+        record m.0 { seen = r.log; kept = [] },
+        keeps,
+        tt,
+        unmoved s r id m.0 record m.0 { seen = r.log; kept = [] } _ (same_word s.words) at refl (seeing s r id m.0 knows),
+        record { log = r.log; held = r.held; after = refl; sees = sees s r id m.0 knows; word = found_is s r; bit = r.bit; room = r.room },
+      )
 
   pub name : (slots id : ℕ) (m : My) (act : Option A) → Allows Rule slots id m 0 (λ n. n) (λ _. named_as act m)
   name slots id m act s r len at lt =
-      let k = r.each_seat id m.0 at in
-      (record m.0 { named = act }, keeps, tt,
-      unmoved s r id m.0 record m.0 { named = act } _ (same_word s.words) at refl (record { begun = k.begun; own = k.own; lists = k.lists; turn = k.turn; makes = k.makes }),
-      refl)
+      let k = r.each_seat id m.0 at in (
+        record m.0 { named = act },
+        keeps,
+        tt,
+        unmoved s r id m.0 record m.0 { named = act } _ (same_word s.words) at refl (record { begun = k.begun; own = k.own; lists = k.lists; turn = k.turn; makes = k.makes }),
+        refl,
+      )
 
   -- the one slot, whose place has been looked up
   slot_at : (hs : List (mathlib.Core.Option.Option (Option V))) (x : Option V) → hs ≡ some x ∷ [] → get_elem? hs 0 ≡ some (some x)
@@ -138,24 +152,32 @@ module _ {V A B : Type 0} (stands : V → B → ℕ → List (Entry A) → Type 
         lists = All-nil _;
         turn = λ _. (refl, refl, refl, tag);
         makes = knows.makes;
-      } in
-      (w, takes 0 (Some x), slot_at s.homes (Some x) f.1,
-      record {
-        log = r.log; held = 1; holder = id; maker = r.maker; next = r.next; owner = r.owner;
-        word = word_is s.words _ (expected + 1) (2 * (first + length r.log) + 1) r.word (omega (arith, even, count));
-        room = omega (arith, count, below);
-        bit = le_refl 1;
-        free = λ h. absurd (omega arith);
-        taken = λ _. (ap (λ hs. set hs 0 none) f.1, (w, set_there s.views id m.0 w at, refl));
-        each_seat = λ j u e. ⊎_elim
-            (λ (t : (j ≡ id) × (w ≡ u)). subst (λ (p : ℕ × View A). Knows r.log 1 id r.maker r.next r.owner p.0 p.1) (λ i. (sym t.0 i, t.1 i)) own)
-            (λ (t : (j ≢ id) × (get_elem? s.views j ≡ some u)). let k = r.each_seat j u t.1 in
-                record { begun = k.begun; own = k.own; lists = k.lists; turn = λ h. absurd (omega (arith, (k.turn h).0, none_held)); makes = k.makes })
-            (at_set s.views id j w u e);
-        limit = r.limit;
-        unborn = r.unborn;
-      },
-      record { hit = λ _. record { log = r.log; value = x; after = refl; sees = sees s r id m.0 knows; word = found; stood = f.2 }; miss = λ ne. absurd (ne is) })
+      } in (
+        w,
+        takes 0 (Some x),
+        slot_at s.homes (Some x) f.1,
+        record {
+          log = r.log;
+          held = 1;
+          holder = id;
+          maker = r.maker;
+          next = r.next;
+          owner = r.owner;
+          word = word_is s.words _ (expected + 1) (2 * (first + length r.log) + 1) r.word (omega (arith, even, count));
+          room = omega (arith, count, below);
+          bit = le_refl 1;
+          free = λ h. absurd (omega arith);
+          taken = λ _. (ap (λ hs. set hs 0 none) f.1, (w, set_there s.views id m.0 w at, refl));
+          each_seat = λ j u e. ⊎_elim
+              (λ (t : (j ≡ id) × (w ≡ u)). subst (λ (p : ℕ × View A). Knows r.log 1 id r.maker r.next r.owner p.0 p.1) (λ i. (sym t.0 i, t.1 i)) own)
+              (λ (t : (j ≢ id) × (get_elem? s.views j ≡ some u)). let k = r.each_seat j u t.1 in
+              record { begun = k.begun; own = k.own; lists = k.lists; turn = λ h. absurd (omega (arith, (k.turn h).0, none_held)); makes = k.makes })
+              (at_set s.views id j w u e);
+          limit = r.limit;
+          unborn = r.unborn;
+        },
+        record { hit = λ _. record { log = r.log; value = x; after = refl; sees = sees s r id m.0 knows; word = found; stood = f.2 }; miss = λ ne. absurd (ne is) },
+      )
 
   pub claim : (slots id : ℕ) (m : My) (expected c : ℕ) → expected ≡ 2 * c → c < 4611686018427387904 → 0 < m.0.tag
       → Allows Rule slots id m 0 (λ n. either (eqb n expected) (expected + 1) n) (Claimed stands base first expected m)
@@ -163,8 +185,8 @@ module _ {V A B : Type 0} (stands : V → B → ℕ → List (Entry A) → Type 
       let n = slice_index s.words 0 in
       exchanged n expected (expected + 1)
       (λ k. (w : View A) × (a : Act (Option V)) × Valid s.homes m.1 a
-          × Rule (stepped s 0 k id m.1 w a)
-          × Claimed stands base first expected m n (w, carried_after m.1 a))
+      × Rule (stepped s 0 k id m.1 w a)
+      × Claimed stands base first expected m n (w, carried_after m.1 a))
       (λ hit. claims s r id m expected c even below tag at hit)
       (λ miss. let l = look slots id m s r len at lt in (l.0, l.1, l.2, l.3, record { hit = λ h. absurd (miss h); miss = λ _. l.4 }))
 
@@ -218,28 +240,39 @@ module _ {V A B : Type 0} (stands : V → B → ℕ → List (Entry A) → Type 
         begun = subst (StartsWith log) (sym is) (StartsWith-self log);
         own = λ k e. let o = knows.own k e in (o.0, o.1, ap (calls_by k) (sym is));
         lists = All-weaker (IsKept r.log r.next r.owner id v.tag) (IsKept log r.next r.owner id v.tag)
-            (λ l h. (StartsWith-longer r.log l.seen (entry n act ∷ []) h.0,
-            owned_more r.log r.next r.owner id l.tag n l.seen act (inr (λ e. h.2 (omega (arith, e)) (e ∙ sym tag))) h.1, h.2)) v.kept knows.lists;
+            (λ l h. (
+              StartsWith-longer r.log l.seen (entry n act ∷ []) h.0,
+              owned_more r.log r.next r.owner id l.tag n l.seen act (inr (λ e. h.2 (omega (arith, e)) (e ∙ sym tag))) h.1,
+              h.2,
+            )) v.kept knows.lists;
         turn = λ h. absurd (omega arith);
         makes = knows.makes;
-      } in
-      (w, gives, tt,
-      record {
-        log = log; held = 0; holder = r.holder; maker = r.maker; next = r.next; owner = r.owner;
-        word = word_is s.words _ ((slice_index s.words 0 + 1) % 2 ^ 64) (2 * (first + length log) + 0) r.word
-            (next_word (slice_index s.words 0) (omega (arith, odd, r.room, t.0)) ∙ omega (arith, odd, longer));
-        room = omega (arith, longer, r.room, t.0);
-        bit = omega arith;
-        free = λ _. (x, back s.homes m.1 x (r.taken t.0).0 carried, subst (λ l. stands x base first (l ++ entry n act ∷ [])) t.2 for);
-        taken = λ h. absurd (omega arith);
-        each_seat = λ j u e. ⊎_elim
-            (λ (p : (j ≡ id) × (w ≡ u)). subst (λ (q : ℕ × View A). Knows log 0 r.holder r.maker r.next r.owner q.0 q.1) (λ i. (sym p.0 i, p.1 i)) own)
-            (λ (p : (j ≢ id) × (get_elem? s.views j ≡ some u)). known_more s r j n u act (λ o. p.0 (sym o ∙ mine.1)) (λ h. p.0 (h ∙ sym t.1)) (r.each_seat j u p.1))
-            (at_set s.views id j w u e);
-        limit = r.limit;
-        unborn = λ k le. calls_by-other k n r.log act (λ e. omega (arith, e, mine.0, le)) ∙ r.unborn k le;
-      },
-      refl)
+      } in (
+        w,
+        gives,
+        tt,
+        record {
+          log = log;
+          held = 0;
+          holder = r.holder;
+          maker = r.maker;
+          next = r.next;
+          owner = r.owner;
+          word = word_is s.words _ ((slice_index s.words 0 + 1) % 2 ^ 64) (2 * (first + length log) + 0) r.word
+              (next_word (slice_index s.words 0) (omega (arith, odd, r.room, t.0)) ∙ omega (arith, odd, longer));
+          room = omega (arith, longer, r.room, t.0);
+          bit = omega arith;
+          free = λ _. (x, back s.homes m.1 x (r.taken t.0).0 carried, subst (λ l. stands x base first (l ++ entry n act ∷ [])) t.2 for);
+          taken = λ h. absurd (omega arith);
+          each_seat = λ j u e. ⊎_elim
+              (λ (p : (j ≡ id) × (w ≡ u)). subst (λ (q : ℕ × View A). Knows log 0 r.holder r.maker r.next r.owner q.0 q.1) (λ i. (sym p.0 i, p.1 i)) own)
+              (λ (p : (j ≢ id) × (get_elem? s.views j ≡ some u)). known_more s r j n u act (λ o. p.0 (sym o ∙ mine.1)) (λ h. p.0 (h ∙ sym t.1)) (r.each_seat j u p.1))
+              (at_set s.views id j w u e);
+          limit = r.limit;
+          unborn = λ k le. calls_by-other k n r.log act (λ e. omega (arith, e, mine.0, le)) ∙ r.unborn k le;
+        },
+        refl,
+      )
 
   pub give : (slots id : ℕ) (m : My) (x : V) → m.0.holds ≡ 1 → m.1 ≡ (0, Some x) ∷ [] → stands x base first m.0.seen
       → Allows Rule slots id m 0 (λ n. (n + (2 ^ 64 - 1)) % 2 ^ 64) (λ _. given m)
@@ -249,30 +282,43 @@ module _ {V A B : Type 0} (stands : V → B → ℕ → List (Entry A) → Type 
       let t = knows.turn holds in
       let w : View A = record v { holds = 0; named = None } in
       let odd : slice_index s.words 0 ≡ 2 * (first + length r.log) + 1 = omega (arith, found_is s r, t.0) in
-      let own : Knows r.log 0 r.holder r.maker r.next r.owner id w = record { begun = knows.begun; own = knows.own; lists = knows.lists; turn = λ h. absurd (omega arith); makes = knows.makes } in
-      (w, gives, tt,
-      record {
-        log = r.log; held = 0; holder = r.holder; maker = r.maker; next = r.next; owner = r.owner;
-        word = word_is s.words _ ((slice_index s.words 0 + (2 ^ 64 - 1)) % 2 ^ 64) (2 * (first + length r.log) + 0) r.word
-            (last_word (slice_index s.words 0) (omega (arith, odd)) (omega (arith, odd, r.room, t.0)) ∙ omega (arith, odd));
-        room = omega (arith, r.room, t.0);
-        bit = omega arith;
-        free = λ _. (x, back s.homes m.1 x (r.taken t.0).0 carried, subst (stands x base first) t.2 for);
-        taken = λ h. absurd (omega arith);
-        each_seat = λ j u e. ⊎_elim
-            (λ (p : (j ≡ id) × (w ≡ u)). subst (λ (q : ℕ × View A). Knows r.log 0 r.holder r.maker r.next r.owner q.0 q.1) (λ i. (sym p.0 i, p.1 i)) own)
-            (λ (p : (j ≢ id) × (get_elem? s.views j ≡ some u)). let k = r.each_seat j u p.1 in
-                record { begun = k.begun; own = k.own; lists = k.lists; turn = λ h. absurd (p.0 ((k.turn h).1 ∙ sym t.1)); makes = k.makes })
-            (at_set s.views id j w u e);
-        limit = r.limit;
-        unborn = r.unborn;
-      },
-      refl)
+      let own : Knows r.log 0 r.holder r.maker r.next r.owner id w = record { begun = knows.begun; own = knows.own; lists = knows.lists; turn = λ h. absurd (omega arith); makes = knows.makes } in (
+        w,
+        gives,
+        tt,
+        record {
+          log = r.log;
+          held = 0;
+          holder = r.holder;
+          maker = r.maker;
+          next = r.next;
+          owner = r.owner;
+          word = word_is s.words _ ((slice_index s.words 0 + (2 ^ 64 - 1)) % 2 ^ 64) (2 * (first + length r.log) + 0) r.word
+              (last_word (slice_index s.words 0) (omega (arith, odd)) (omega (arith, odd, r.room, t.0)) ∙ omega (arith, odd));
+          room = omega (arith, r.room, t.0);
+          bit = omega arith;
+          free = λ _. (x, back s.homes m.1 x (r.taken t.0).0 carried, subst (stands x base first) t.2 for);
+          taken = λ h. absurd (omega arith);
+          each_seat = λ j u e. ⊎_elim
+              (λ (p : (j ≡ id) × (w ≡ u)). subst (λ (q : ℕ × View A). Knows r.log 0 r.holder r.maker r.next r.owner q.0 q.1) (λ i. (sym p.0 i, p.1 i)) own)
+              (λ (p : (j ≢ id) × (get_elem? s.views j ≡ some u)). let k = r.each_seat j u p.1 in
+              record { begun = k.begun; own = k.own; lists = k.lists; turn = λ h. absurd (p.0 ((k.turn h).1 ∙ sym t.1)); makes = k.makes })
+              (at_set s.views id j w u e);
+          limit = r.limit;
+          unborn = r.unborn;
+        },
+        refl,
+      )
 
   -- the table at its start
   pub opens : (x : V) → first ≤ 4611686018427387904 → stands x base first [] → Rule (opening (2 * first ∷ []) (Some x ∷ []) opener)
   opens x le for = record {
-    log = []; held = 0; holder = 0; maker = 0; next = 0; owner = λ _. 0;
+    log = [];
+    held = 0;
+    holder = 0;
+    maker = 0;
+    next = 0;
+    owner = λ _. 0;
     word = ap (λ n. n ∷ []) (omega arith);
     room = omega (arith, le);
     bit = omega arith;
@@ -296,7 +342,12 @@ module _ {V A B : Type 0} (stands : V → B → ℕ → List (Entry A) → Type 
   -- a view that a split makes, and that has not the turn
   grown : (s : State (Option V) (View A)) (r : Rule s) (w : View A) → Known s r (length s.views) w → Rule record { words = s.words; homes = s.homes; views = s.views ++ w ∷ [] }
   grown s r w knows = record {
-    log = r.log; held = r.held; holder = r.holder; maker = r.maker; next = r.next; owner = r.owner;
+    log = r.log;
+    held = r.held;
+    holder = r.holder;
+    maker = r.maker;
+    next = r.next;
+    owner = r.owner;
     word = r.word;
     room = r.room;
     bit = r.bit;
@@ -341,17 +392,22 @@ module _ {V A B : Type 0} (stands : V → B → ℕ → List (Entry A) → Type 
       let place = length (set s.views id (made_one v)) in
       let owner = born r.next place r.owner in
       let old : (j : ℕ) (u : View A) → (0 < u.next → (j ≡ r.maker) × (u.next ≡ suc (suc r.next))) → Known s r j record u { next = 0 } → Knows r.log r.held r.holder r.maker (suc r.next) owner j u
-          = λ j u makes k. record {
-            begun = k.begun;
-            own = owned_before r.log r.next place r.owner j u.tag u.seen k.own;
-            lists = All-weaker (IsKept r.log r.next r.owner j u.tag) (IsKept r.log (suc r.next) owner j u.tag) (λ l h. (h.0, owned_before r.log r.next place r.owner j l.tag l.seen h.1, h.2)) u.kept k.lists;
-            turn = k.turn;
-            makes = makes;
-          } in
+      = λ j u makes k. record {
+        begun = k.begun;
+        own = owned_before r.log r.next place r.owner j u.tag u.seen k.own;
+        lists = All-weaker (IsKept r.log r.next r.owner j u.tag) (IsKept r.log (suc r.next) owner j u.tag) (λ l h. (h.0, owned_before r.log r.next place r.owner j l.tag l.seen h.1, h.2)) u.kept k.lists;
+        turn = k.turn;
+        makes = makes;
+      } in
       let bare : (j : ℕ) (u : View A) → Known s r j u → Known s r j record u { next = 0 }
-          = λ j u k. record { begun = k.begun; own = k.own; lists = k.lists; turn = k.turn; makes = λ h. absurd (omega arith) } in
+      = λ j u k. record { begun = k.begun; own = k.own; lists = k.lists; turn = k.turn; makes = λ h. absurd (omega arith) } in
       record {
-        log = r.log; held = r.held; holder = r.holder; maker = r.maker; next = suc r.next; owner = owner;
+        log = r.log;
+        held = r.held;
+        holder = r.holder;
+        maker = r.maker;
+        next = suc r.next;
+        owner = owner;
         word = r.word;
         room = r.room;
         bit = r.bit;
@@ -360,10 +416,10 @@ module _ {V A B : Type 0} (stands : V → B → ℕ → List (Entry A) → Type 
             (t.0, (u.0, at_longer (set s.views id (made_one v)) (newcomer v ∷ []) r.holder u.0 u.1, u.2));
         each_seat = λ j u e. ⊎_elim
             (λ was. ⊎_elim
-                (λ (p : (j ≡ id) × (made_one v ≡ u)). subst (λ (q : ℕ × View A). Knows r.log r.held r.holder r.maker (suc r.next) owner q.0 q.1) (λ i. (sym p.0 i, p.1 i))
-                    (old id (made_one v) (λ _. (mk.0, omega (arith, mk.1))) (bare id v knows)))
-                (λ (p : (j ≢ id) × (get_elem? s.views j ≡ some u)). let k = r.each_seat j u p.1 in old j u (λ h. absurd (p.0 ((k.makes h).0 ∙ sym mk.0))) (bare j u k))
-                (at_set s.views id j (made_one v) u was))
+            (λ (p : (j ≡ id) × (made_one v ≡ u)). subst (λ (q : ℕ × View A). Knows r.log r.held r.holder r.maker (suc r.next) owner q.0 q.1) (λ i. (sym p.0 i, p.1 i))
+            (old id (made_one v) (λ _. (mk.0, omega (arith, mk.1))) (bare id v knows)))
+            (λ (p : (j ≢ id) × (get_elem? s.views j ≡ some u)). let k = r.each_seat j u p.1 in old j u (λ h. absurd (p.0 ((k.makes h).0 ∙ sym mk.0))) (bare j u k))
+            (at_set s.views id j (made_one v) u was))
             (λ (p : (j ≡ place) × (newcomer v ≡ u)). subst (λ (q : ℕ × View A). Knows r.log r.held r.holder r.maker (suc r.next) owner q.0 q.1) (λ i. (sym p.0 i, p.1 i)) record {
               begun = StartsWith-nil r.log;
               own = λ k t. let same : r.next ≡ k = omega (arith, mk.1, t) in (omega arith, subst (λ n. owner n ≡ place) same (born_new r.next place r.owner), r.unborn k (omega (arith, same)));
@@ -409,12 +465,12 @@ module _ {V A B : Type 0} (stands : V → B → ℕ → List (Entry A) → Type 
         own = owned_now r.log r.next r.owner owner id id v.tag v.seen ours mine.own;
         lists = All-append (IsKept r.log r.next owner id v.tag) (list_of w ∷ []) (v.kept ++ w.kept)
             (All-one (IsKept r.log r.next owner id v.tag) (list_of w)
-                (theirs.begun, owned_now r.log r.next r.owner owner other id w.tag w.seen taken_over theirs.own, apart r.log r.next r.owner id other v.tag w.tag v.seen w.seen ne mine.own theirs.own))
+            (theirs.begun, owned_now r.log r.next r.owner owner other id w.tag w.seen taken_over theirs.own, apart r.log r.next r.owner id other v.tag w.tag v.seen w.seen ne mine.own theirs.own))
             (All-append (IsKept r.log r.next owner id v.tag) v.kept w.kept
-                (All-weaker (IsKept r.log r.next r.owner id v.tag) (IsKept r.log r.next owner id v.tag)
-                    (λ l h. (h.0, owned_now r.log r.next r.owner owner id id l.tag l.seen ours h.1, h.2)) v.kept mine.lists)
-                (All-weaker (IsKept r.log r.next r.owner other w.tag) (IsKept r.log r.next owner id v.tag)
-                    (λ l h. (h.0, owned_now r.log r.next r.owner owner other id l.tag l.seen taken_over h.1, apart r.log r.next r.owner id other v.tag l.tag v.seen l.seen ne mine.own h.1)) w.kept theirs.lists));
+            (All-weaker (IsKept r.log r.next r.owner id v.tag) (IsKept r.log r.next owner id v.tag)
+            (λ l h. (h.0, owned_now r.log r.next r.owner owner id id l.tag l.seen ours h.1, h.2)) v.kept mine.lists)
+            (All-weaker (IsKept r.log r.next r.owner other w.tag) (IsKept r.log r.next owner id v.tag)
+            (λ l h. (h.0, owned_now r.log r.next r.owner owner other id l.tag l.seen taken_over h.1, apart r.log r.next r.owner id other v.tag l.tag v.seen l.seen ne mine.own h.1)) w.kept theirs.lists));
         turn = mine.turn;
         makes = mine.makes;
       } in
@@ -426,15 +482,20 @@ module _ {V A B : Type 0} (stands : V → B → ℕ → List (Entry A) → Type 
         makes = λ h. absurd (omega arith);
       } in
       let else : (j : ℕ) (u : View A) → j ≢ other → Known s r j u → Knows r.log r.held r.holder r.maker r.next owner j u
-          = λ j u nj k. let same : (n : ℕ) → r.owner n ≡ j → owner n ≡ j = λ n e. moved_else other id r.owner n j nj e in record {
-            begun = k.begun;
-            own = owned_now r.log r.next r.owner owner j j u.tag u.seen same k.own;
-            lists = All-weaker (IsKept r.log r.next r.owner j u.tag) (IsKept r.log r.next owner j u.tag) (λ l h. (h.0, owned_now r.log r.next r.owner owner j j l.tag l.seen same h.1, h.2)) u.kept k.lists;
-            turn = k.turn;
-            makes = k.makes;
-          } in
+      = λ j u nj k. let same : (n : ℕ) → r.owner n ≡ j → owner n ≡ j = λ n e. moved_else other id r.owner n j nj e in record {
+        begun = k.begun;
+        own = owned_now r.log r.next r.owner owner j j u.tag u.seen same k.own;
+        lists = All-weaker (IsKept r.log r.next r.owner j u.tag) (IsKept r.log r.next owner j u.tag) (λ l h. (h.0, owned_now r.log r.next r.owner owner j j l.tag l.seen same h.1, h.2)) u.kept k.lists;
+        turn = k.turn;
+        makes = k.makes;
+      } in
       record {
-        log = r.log; held = r.held; holder = r.holder; maker = r.maker; next = r.next; owner = owner;
+        log = r.log;
+        held = r.held;
+        holder = r.holder;
+        maker = r.maker;
+        next = r.next;
+        owner = owner;
         word = r.word;
         room = r.room;
         bit = r.bit;
@@ -445,9 +506,9 @@ module _ {V A B : Type 0} (stands : V → B → ℕ → List (Entry A) → Type 
         each_seat = λ j u e. ⊎_elim
             (λ (p : (j ≡ other) × (spent_view ≡ u)). subst (λ (q : ℕ × View A). Knows r.log r.held r.holder r.maker r.next owner q.0 q.1) (λ i. (sym p.0 i, p.1 i)) gone)
             (λ (p : (j ≢ other) × (get_elem? (set s.views id (joined v w)) j ≡ some u)). ⊎_elim
-                (λ (q : (j ≡ id) × (joined v w ≡ u)). subst (λ (x : ℕ × View A). Knows r.log r.held r.holder r.maker r.next owner x.0 x.1) (λ i. (sym q.0 i, q.1 i)) own)
-                (λ (q : (j ≢ id) × (get_elem? s.views j ≡ some u)). else j u p.0 (r.each_seat j u q.1))
-                (at_set s.views id j (joined v w) u p.1))
+            (λ (q : (j ≡ id) × (joined v w ≡ u)). subst (λ (x : ℕ × View A). Knows r.log r.held r.holder r.maker r.next owner x.0 x.1) (λ i. (sym q.0 i, q.1 i)) own)
+            (λ (q : (j ≢ id) × (get_elem? s.views j ≡ some u)). else j u p.0 (r.each_seat j u q.1))
+            (at_set s.views id j (joined v w) u p.1))
             (at_set (set s.views id (joined v w)) other j spent_view u e);
         limit = r.limit;
         unborn = r.unborn;

@@ -24,7 +24,6 @@ abbrev pub Pass : Type 0 → Type 0 → Type 0
 Pass V A = Me (Option V) (View A)
 
 module _ {V A : Type 0} where
-
   -- a pass that has seen more, and nothing new of its own
   later : (z z' : TableId) (m m' : Pass V A) (log : List (Entry A)) → z' ≡ z → 0 < m.0.tag → m'.0.tag ≡ m.0.tag → m'.0.seen ≡ log → Sees m.0 log → IsLater (place_of z m) (place_of z' m')
   later z z' m m' log same numbered tag seen sees = record {

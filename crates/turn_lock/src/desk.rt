@@ -7,8 +7,8 @@ ghost use Rattle.turn_lock.specs.Passes.{place_of, IsSeat, HasTurn, IsWord, Has,
 ghost use Rattle.turn_lock.specs.Ruled.{opener};
 ghost use Rattle.turn_lock.specs.Plays.{Looked, Claimed, joined, newcomer};
 
-use crate::rule::{Key, Law, View};
 use crate::kinds::{Give, Keep, Make, Name, Note, Tell};
+use crate::rule::{Key, Law, View};
 use crate::worn::Worn;
 use atomic_table::{Refused, Seat, Table};
 use flat_image::{Named, Stands};
@@ -16,8 +16,8 @@ use sector_extent::Memory;
 use std::alloc::{AllocFailed, Global};
 use std::hint::spin_loop;
 use std::marker::Brand;
-use std::sync::atomic::{AtomicU64, Ordering};
 use std::sync::Wait;
+use std::sync::atomic::{AtomicU64, Ordering};
 
 /// The word once the history has as many entries as it may have.
 pub(crate) const END: u64 = 1 << 63;

@@ -16,9 +16,11 @@ loop-seat-init g c =
     }
 
 pub join-requires-clause-lock : goal.join-requires-clause-lock
-join-requires-clause-lock g c =
-    (c.loop-seat.invariant.lock, popped_same c.args.desk.now.table.shared.table_id _ c.args.seats.items c.loop-seat.seats.items c.pop-in-loop-seat.new.self.items c.in-Some-pop.seat c.into_pass.result.table_id c.into_pass.result.me
-    c.requires.seats c.loop-seat.invariant.rest c.in-Some-pop.ensures.items c.into_pass.ensures.seat c.into_pass.ensures.same)
+join-requires-clause-lock g c = (
+  c.loop-seat.invariant.lock,
+  popped_same c.args.desk.now.table.shared.table_id _ c.args.seats.items c.loop-seat.seats.items c.pop-in-loop-seat.new.self.items c.in-Some-pop.seat c.into_pass.result.table_id c.into_pass.result.me
+      c.requires.seats c.loop-seat.invariant.rest c.in-Some-pop.ensures.items c.into_pass.ensures.seat c.into_pass.ensures.same,
+)
 
 pub join-requires-clause-idle : goal.join-requires-clause-idle
 join-requires-clause-idle g c =
