@@ -1,7 +1,8 @@
 -- What the definitions give of the small histories.
-use Rattle.std.proofs.Common.{◌≡◌, ℕ, false, ◌∷◌, [], List, refl, inl, lit<, lit≤, ap, take, drop}
+use Rattle.std.proofs.Common.{◌≡◌, ℕ, false, ◌∷◌, [], List, refl, inl, inr, arith, lit<, lit≤, ap, take, drop}
 use Rattle.std.proofs.Math.ListN.{replicate}
 use Rattle.std.proofs.lemmas.List.Elements.{All-nil, All-cons}
+use Rattle.std.specs.Prelude.{Some, None}
 use Rattle.flat_image.specs.declared.act.Act.{Act}
 use Rattle.flat_image.specs.declared.act.Act.TheVariants.{Write}
 use Rattle.flat_image.specs.declared.stands.Entry.{Entry}
@@ -10,7 +11,7 @@ use Rattle.flat_image.specs.Sectors.{sectors_in, put_at}
 use Rattle.flat_image.specs.Base.{holes}
 use Rattle.flat_image.specs.Entries.{entry}
 use Rattle.flat_image.specs.History.{keeps}
-use Rattle.flat_image.specs.Examples.{sector, flushed, WritesAndCommit, FlushAndCrash, LanesOverLayer, FullTop}
+use Rattle.flat_image.specs.Examples.{sector, uuid, flushed, WritesAndCommit, FlushAndCrash, LanesOverLayer, FullTop, FaultsAndOrder}
 
 pub writes_and_commit : WritesAndCommit
 unfolding sectors_in put_at zero_sector
@@ -64,5 +65,23 @@ lanes_and_commit layer e = record {
 }
 
 pub full_top : FullTop
-full_top = record
-    { large = refl; larger = refl; over = inl (lit< tt); room = record { rows_fit = lit≤ tt; sectors_fit = lit≤ tt } }
+unfolding sectors_in
+full_top = record {
+  large = refl;
+  larger = refl;
+  over = inl (lit< tt);
+  room = record { rows_fit = lit≤ tt; sectors_fit = lit≤ tt };
+  data_over = inr (lit< tt);
+  data_room = record { rows_fit = lit≤ tt; sectors_fit = lit≤ tt };
+}
+
+pub faults_and_order : FaultsAndOrder
+unfolding sectors_in put_at zero_sector
+faults_and_order = record {
+  place = refl;
+  failed = refl;
+  read = refl;
+  busy = λ may. absurd (let none : Some (record { uuid = uuid 0x11; sheet = holes 8 }) ≡ None = may.free in cc);
+  many = λ layers is may. absurd (omega (arith, is, may.few));
+  worn = refl;
+}

@@ -1,9 +1,9 @@
 -- Laws of a history: one entry longer, in two parts, since the last Freeze, and the image that it makes.
-use Rattle.std.proofs.Common.{◌≡◌, ◌⊎◌, ◌||◌, ℕ, zero, suc, ◌+◌, ◌≤◌, Bool, true, false, List, [], ◌∷◌, ◌++◌, length, map, take, drop, refl, sym, ap, ◌∙◌, subst, inl, inr, arith, append_assoc, length-take, add_assoc, add-zero}
+use Rattle.std.proofs.Common.{◌≡◌, ◌⊎◌, ◌||◌, ℕ, zero, suc, ◌+◌, ◌≤◌, Bool, true, false, cond, List, [], ◌∷◌, ◌++◌, length, map, take, drop, refl, sym, ap, ◌∙◌, subst, inl, inr, arith, append_assoc, length-take, add_assoc, add-zero}
 use Rattle.std.proofs.Math.ListN.{replicate}
 use Rattle.std.proofs.lemmas.List.{length-map, length-replicate, map-append, take-append-drop}
 use Rattle.std.proofs.Math.Seq.{take-append_seam}
-use Rattle.std.proofs.lemmas.List.Sums.{fold-append, sum_by-cons}
+use Rattle.std.proofs.lemmas.List.Sums.{fold-append, sum_by-append, sum_by-cons}
 use Rattle.std.proofs.lemmas.List.Elements.{All-nil, All-cons, All-head, All-tail, All-append, All-map, All-take, All-drop, All-replicate, All-weaker}
 use Rattle.std.specs.Prelude.{fold, All, Option, Some, None, IfSome}
 use Rattle.flat_image.specs.declared.act.Act.{Act}
@@ -18,9 +18,9 @@ use Rattle.flat_image.specs.CanonicalFiles.{file_of}
 use Rattle.flat_image.specs.LayerReading.{sheet_in}
 use Rattle.flat_image.specs.Base.{holes, top_uuid, pending_of, sheet_list, sheets_of, image_of, IsLayerFile, IsFrozen, IsBase}
 use Rattle.flat_image.specs.Entries.{entry, StartsWith}
-use Rattle.flat_image.specs.History.{History, step, now, after, changed, written, rows_taken, sectors_taken, sealed_over, committed, frozen, used_rows, used_sectors, keeps, kept_from, kept, Proper, Allowed, HasRoom}
-use Rattle.flat_image.specs.Left.{Kept}
-use Rattle.flat_image.specs.HistoryLaws.{freezes, has_freeze, since_freeze, TopIsSinceFreeze, UsedIsSum, FreezeTakesTop, SealAddsFile, KeptIsPlace, KeptReaches, ReadsBack, BaseStays, AfterIsImage, BaseIsImage}
+use Rattle.flat_image.specs.History.{History, step, now, after, changed, written, rows_taken, sectors_taken, sealed_over, committed, frozen, used_rows, used_sectors, keeps, kept_from, kept, Proper, Allowed, HasRoom, is_fault, fault_count}
+use Rattle.flat_image.specs.Left.{Kept, moves_layers}
+use Rattle.flat_image.specs.HistoryLaws.{freezes, has_freeze, since_freeze, TopIsSinceFreeze, UsedIsSum, FreezeTakesTop, FrozenStays, SealAddsFile, KeptIsPlace, KeptReaches, ReadsBack, BaseStays, AfterIsImage, BaseIsImage}
 use Rattle.flat_image.proofs.Painting.{FitsIn, paint-holes, paint-filled, paint-zeros, paint-put_at, length-paint, length-put_at, length-painted, length-flat, length-sectors_in, whole-sectors_in, AreSectors-flat}
 use Rattle.flat_image.proofs.LayerLaws.{sheet_in-IsLayer, IsSheet-IsLayer}
 
@@ -220,6 +220,21 @@ seal-adds_file b h = record {
     other_by number (Freeze uuid) = inl (others number (Freeze uuid) refl)
     other_by number (Seal uuid) = inr (uuid, refl)
     other_by number (Fault asked) = inl (others number (Fault asked) refl)
+
+pub frozen-stays : (b : Base) (h : History) → FrozenStays b h
+frozen-stays b h = record {
+  seal = λ number uuid. ap (λ (v : Base). v.frozen) (now-entry b h number (Seal uuid));
+  other = λ number act is. ap (λ (v : Base). v.frozen) (now-entry b h number act) ∙ stays act is;
+}
+  where
+    stays : (act : Act) → moves_layers act ≡ false → (step (now b h) act).frozen ≡ (now b h).frozen
+    stays (Read at count) is = refl
+    stays (Write at bytes) is = refl
+    stays (Zero at count) is = refl
+    stays Flush is = refl
+    stays (Freeze uuid) is = absurd (cc)
+    stays (Seal uuid) is = absurd (cc)
+    stays (Fault asked) is = refl
 
 -- the place of what is kept
 abbrev IsUnkept : Entry Act → Type 0
@@ -488,3 +503,7 @@ base-is_image b base = record {
     all = All-append (IsSheet b.sectors) (map sheet_in (b.lowers ++ b.done)) (sheet_list b.frozen ++ b.top ∷ []) (layer_sheets b.sectors (b.lowers ++ b.done) base.layers)
         (All-append (IsSheet b.sectors) (sheet_list b.frozen) (b.top ∷ []) (frozen_sheets b.sectors b.frozen base.frozen_is)
         (All-cons (IsSheet b.sectors) b.top [] base.top_is (All-nil (IsSheet b.sectors))))
+
+-- the failed steps of a history in two parts, and one entry longer
+pub fault_count-append : (h more : History) → fault_count (h ++ more) ≡ fault_count h + fault_count more
+fault_count-append h more = sum_by-append (λ (e : Entry Act). cond (is_fault e.act) 1 0) h more

@@ -3,8 +3,10 @@ pub mod Entries
 pub mod ExampleFacts
 pub mod HistoryLaws
 pub mod LayerLaws
+pub mod LeftLaws
 pub mod Painting
 pub mod PlainExits
 pub mod PlainLaws
+pub mod PortLaws
 pub mod Runs
 pub mod SpelledRows

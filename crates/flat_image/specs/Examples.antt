@@ -1,7 +1,8 @@
 -- Small histories, and what the definitions give of them.
-use Rattle.std.specs.Prelude.{◌≡◌, ℕ, List, [], ◌∷◌, ◌++◌, take, replicate, Some, None}
+use Rattle.std.specs.Prelude.{◌≡◌, ℕ, ◌^◌, length, List, [], ◌∷◌, ◌++◌, take, replicate, Some, None}
 use Rattle.sector_extent.specs.Rows.{rows_for}
-use Rattle.flat_image.specs.declared.act.Act.TheVariants.{Read, Write, Zero, Flush, Freeze, Seal}
+use Rattle.flat_image.specs.declared.act.Act.TheVariants.{Read, Write, Zero, Flush, Freeze, Seal, Fault}
+use Rattle.flat_image.specs.declared.act.Asked.TheVariants.{Nothing}
 use Rattle.flat_image.specs.declared.base.Base.{Base}
 use Rattle.flat_image.specs.Sheets.{Cell, Hole, Filled}
 use Rattle.flat_image.specs.Sheets as sheets
@@ -10,9 +11,9 @@ use Rattle.flat_image.specs.CanonicalFiles.{file_of}
 use Rattle.flat_image.specs.LayerReading.{sheet_in, uuid_in}
 use Rattle.flat_image.specs.Base.{fresh}
 use Rattle.flat_image.specs.Entries.{entry, calls_by}
-use Rattle.flat_image.specs.History.{History, now, reply, committed, frozen, pending, used_rows, used_sectors, kept, sheet_at}
+use Rattle.flat_image.specs.History.{History, now, reply, committed, frozen, pending, used_rows, used_sectors, kept, sheet_at, fault_count, CanFreeze}
 use Rattle.flat_image.specs.Left.{Left}
-use Rattle.flat_image.specs.Ports.{IsOverFor, HasRoomFor}
+use Rattle.flat_image.specs.Ports.{IsWorn, IsOverFor, HasRoomFor}
 
 -- a sector of one byte, and a uuid of one byte
 abbrev pub sector : ℕ → List ℕ
@@ -84,8 +85,27 @@ LanesOverLayer = (layer : List ℕ) → sheet_in layer ≡ Hole ∷ Filled (sect
 abbrev pub nearly_full : Base
 nearly_full = record (fresh 131072 []) { rows = 4194300 }
 
+-- and one whose data are full
+abbrev pub full_data : Base
+full_data = record (fresh 131072 []) { filled = 2 ^ 30 }
+
 pub record FullTop : Type 0 where
   pub large : rows_for 65536 ≡ 5
   pub larger : rows_for 8388607 ≡ 513
   pub over : IsOverFor nearly_full [] (Zero 0 65536)
   pub room : HasRoomFor nearly_full [] (Zero 0 65532)
+  pub data_over : IsOverFor full_data [] (Write 0 (sector 0x61))
+  pub data_room : HasRoomFor full_data [] (Zero 0 1)
+
+-- a flush fails, and the next one keeps what was written before either
+abbrev pub healed : History
+healed = entry 0 (Write 0 (sector 0x61)) ∷ entry 0 (Fault Nothing) ∷ entry 0 (Write 1 (sector 0x62)) ∷ entry 0 Flush ∷ []
+
+-- a layer is frozen, and then another is asked for
+pub record FaultsAndOrder : Type 0 where
+  pub place : kept healed ≡ 4
+  pub failed : fault_count healed ≡ 1
+  pub read : reply (fresh 8 []) healed 0 2 ≡ sector 0x61 ++ sector 0x62
+  pub busy : CanFreeze [] (frozen (fresh 8 []) (entry 0 (Freeze (uuid 0x11)) ∷ [])) (uuid 0x22) → ⊥
+  pub many : (layers : List (List ℕ)) → length layers ≡ 255 → CanFreeze layers None (uuid 0x22) → ⊥
+  pub worn : IsWorn (record { base = fresh 8 []; first = 4611686018427387903; number = 0; seen = entry 0 Flush ∷ []; faults = 0 })

@@ -1,8 +1,9 @@
 -- What the definitions along a history come to, in other words.
-use Rattle.std.specs.Prelude.{◌≡◌, ℕ, suc, ◌+◌, ◌≤◌, ◌⊎◌, ◌↔◌, Bool, true, false, if◌then◌else◌, List, [], ◌∷◌, ◌++◌, length, drop, fold, sum_by, All, Some, ⊤}
+use Rattle.std.specs.Prelude.{◌≡◌, ℕ, suc, ◌+◌, ◌≤◌, ◌⊎◌, ◌↔◌, Bool, true, false, if◌then◌else◌, List, [], ◌∷◌, ◌++◌, length, drop, fold, sum_by, All, Some, None, ⊤}
 use Rattle.std.specs.List.{list_any}
 use Rattle.flat_image.specs.declared.act.Act.{Act}
 use Rattle.flat_image.specs.declared.act.Act.TheVariants.{Read, Write, Zero, Flush, Freeze, Seal, Fault}
+use Rattle.flat_image.specs.declared.act.Asked.TheVariants.{Uuid}
 use Rattle.flat_image.specs.declared.base.Base.{Base}
 use Rattle.flat_image.specs.declared.stands.Entry.{Entry}
 use Rattle.flat_image.specs.Sheets.{Cell, IsImage}
@@ -12,7 +13,7 @@ use Rattle.flat_image.specs.LayerReading.{IsLayer}
 use Rattle.flat_image.specs.Base.{holes, top_uuid, image_of, IsBase}
 use Rattle.flat_image.specs.Entries.{entry, StartsWith}
 use Rattle.flat_image.specs.History.{History, step, now, after, written, rows_taken, sectors_taken, committed, frozen, pending, sheet_at, used_rows, used_sectors, keeps, kept, Proper}
-use Rattle.flat_image.specs.Left.{Kept}
+use Rattle.flat_image.specs.Left.{Kept, Blamed, moves_layers, Left}
 
 abbrev pub freezes : Act → Bool
 freezes (Read at count) = false
@@ -50,6 +51,11 @@ FreezeTakesTop base history =
     (number : ℕ) (uuid : List ℕ)
     → frozen base (history ++ entry number (Freeze uuid) ∷ []) ≡ Some (record { uuid = uuid; sheet = sheet_at base (history ++ entry number (Freeze uuid) ∷ []) (length history) })
 
+-- a Seal leaves nothing frozen, and but for it and a Freeze no act changes what is frozen
+pub record FrozenStays (base : Base) (history : History) : Type 0 where
+  pub seal : (number : ℕ) (uuid : List ℕ) → frozen base (history ++ entry number (Seal uuid) ∷ []) ≡ None
+  pub other : (number : ℕ) (act : Act) → moves_layers act ≡ false → frozen base (history ++ entry number act ∷ []) ≡ frozen base history
+
 -- a Seal adds the canonical file of the frozen sheet, over the uppermost file before it, and nothing else adds one
 pub record SealAddsFile (base : Base) (history : History) : Type 0 where
   pub seal : (number : ℕ) (uuid : List ℕ) → pending base history ≡ Some uuid
@@ -66,6 +72,11 @@ pub record KeptIsPlace (history : History) : Type 0 where
   pub least : (kept history ≡ 0)
       ⊎ ((front : History) × (e : Entry Act) × (rest : History)
       × (history ≡ front ++ e ∷ rest) × (keeps e.act ≡ true) × (kept history ≡ suc (length front)))
+
+-- where all is kept and no step of a commit failed since the last Freeze or Seal, a crash leaves what the history made
+abbrev pub LeavesNow : Base → History → Type 0
+LeavesNow base history =
+    kept history ≡ length history → ((uuid : List ℕ) → Blamed history (Uuid uuid) → ⊥) → (b : Base) → Left base history b → b ≡ now base history
 
 -- a beginning has all that is kept just where it reaches to that place
 abbrev pub KeptReaches : History → History → Type 0

@@ -1,6 +1,6 @@
 ghost use Rattle.std.specs.Prelude.{List};
 ghost use Rattle.flat_image.specs.History.{History};
-ghost use Rattle.flat_image.specs.HistoryLaws.{TopIsSinceFreeze, UsedIsSum, FreezeTakesTop, SealAddsFile, KeptIsPlace, KeptReaches, BaseStays, AfterIsImage, BaseIsImage};
+ghost use Rattle.flat_image.specs.HistoryLaws.{TopIsSinceFreeze, UsedIsSum, FreezeTakesTop, FrozenStays, SealAddsFile, KeptIsPlace, KeptReaches, LeavesNow, BaseStays, AfterIsImage, BaseIsImage};
 
 use crate::base::Base;
 
@@ -9,9 +9,11 @@ pub fn history_laws()
     ensures top { (base : Base) (history : History) → TopIsSinceFreeze base history }
     ensures used { (base : Base) (history : History) → UsedIsSum base history }
     ensures freeze { (base : Base) (history : History) → FreezeTakesTop base history }
+    ensures frozen { (base : Base) (history : History) → FrozenStays base history }
     ensures seal { (base : Base) (history : History) → SealAddsFile base history }
     ensures kept { (history : History) → KeptIsPlace history }
     ensures left { (history front : History) → KeptReaches history front }
+    ensures crash { (base : Base) (history : History) → LeavesNow base history }
     ensures base { (base : Base) (history : History) → BaseStays base history }
     ensures image { (base : Base) (history : History) → AfterIsImage base history }
     ensures whole { (base : Base) → BaseIsImage base }

@@ -22,3 +22,5 @@ pub use stands::{Entry, Named, Stands};
 
 #[cfg(test)]
 mod examples;
+#[cfg(test)]
+mod tests;

@@ -1,4 +1,5 @@
-use Rattle.flat_image.proofs.HistoryLaws.{top_since-freeze, used-sum, freeze-takes_top, seal-adds_file, kept-is_place, kept-reaches, base-stays, after-is_image, base-is_image}
+use Rattle.flat_image.proofs.HistoryLaws.{top_since-freeze, used-sum, freeze-takes_top, frozen-stays, seal-adds_file, kept-is_place, kept-reaches, base-stays, after-is_image, base-is_image}
+use Rattle.flat_image.proofs.LeftLaws.{leaves-now}
 use Rattle.flat_image.proofs.laws.history_laws.Goals as goal
 
 pub returns : goal.returns
@@ -6,9 +7,11 @@ returns c = record {
   top = top_since-freeze;
   used = used-sum;
   freeze = freeze-takes_top;
+  frozen = frozen-stays;
   seal = seal-adds_file;
   kept = kept-is_place;
   left = kept-reaches;
+  crash = leaves-now;
   base = base-stays;
   image = after-is_image;
   whole = base-is_image;
