@@ -1,8 +1,7 @@
 -- What a crash leaves of a history.
-use Rattle.std.proofs.Common.{◌≡◌, ◌⊎◌, ℕ, ◌+◌, ◌≤◌, false, List, [], ◌∷◌, ◌++◌, length, refl, sym, ap, ◌∙◌, subst, inl, inr, arith, append_assoc, append-nil, length-append}
+use Rattle.std.proofs.Common.{◌≡◌, ℕ, ◌≤◌, false, [], ◌∷◌, ◌++◌, length, refl, sym, ap, ◌∙◌, inl, inr, arith, append_assoc, append-nil, length-append}
 use Rattle.std.proofs.lemmas.List.{nil_from_length}
 use Rattle.std.proofs.lemmas.List.Elements.{All-nil, All-append, All-cons}
-use Rattle.std.specs.Prelude.{All}
 use Rattle.flat_image.specs.declared.act.Act.{Act}
 use Rattle.flat_image.specs.declared.act.Act.TheVariants.{Fault}
 use Rattle.flat_image.specs.declared.act.Asked.{Asked}
