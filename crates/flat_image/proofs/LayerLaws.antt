@@ -17,6 +17,7 @@ use Rattle.flat_image.specs.Sheets.{Cell, IsCell, IsSheet}
 use Rattle.flat_image.specs.RowCells.{cell_of, cells_from, sheet_of, AreSpelled}
 use Rattle.flat_image.specs.LayerFiles.{LayerFile}
 use Rattle.flat_image.specs.LayerReading.{row_in, row_of, rows_in, sheet_in, uuid_in, IsLayer}
+use Rattle.flat_image.specs.HistoryLaws.{ReadsLayer}
 use Rattle.flat_image.proofs.CellLaws.{whole_cells}
 
 -- sixteen bytes are read as the row that they spell
@@ -82,3 +83,10 @@ uuid_in-IsLayer n uuid sheet file is = uuid_in-layer file is.head sheet is.layer
 
 pub IsSheet-IsLayer : (n : ℕ) (uuid : List ℕ) (sheet : List Cell) (file : List ℕ) → IsLayer n uuid sheet file → IsSheet n sheet
 IsSheet-IsLayer n uuid sheet file is = subst (λ k. IsSheet k sheet) is.size (IsSheet-layer file is.head sheet is.layer)
+
+pub reads-layer : (file : List ℕ) (head : Head) (sheet : List Cell) → LayerFile file head sheet → ReadsLayer file head sheet
+reads-layer file head sheet is = record {
+  cells = sheet_in-layer file head sheet is;
+  name = uuid_in-layer file head sheet is;
+  whole = IsSheet-layer file head sheet is;
+}

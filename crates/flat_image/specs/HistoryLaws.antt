@@ -1,15 +1,16 @@
 -- What the definitions along a history come to, in other words.
 use Rattle.std.specs.Prelude.{◌≡◌, ℕ, suc, ◌+◌, ◌≤◌, ◌⊎◌, ◌↔◌, Bool, true, false, if◌then◌else◌, List, [], ◌∷◌, ◌++◌, length, drop, fold, sum_by, All, Some, None, ⊤}
 use Rattle.std.specs.List.{list_any}
+use Rattle.lsmt_header.specs.declared.head.Head.{Head}
 use Rattle.flat_image.specs.declared.act.Act.{Act}
 use Rattle.flat_image.specs.declared.act.Act.TheVariants.{Read, Write, Zero, Flush, Freeze, Seal, Fault}
 use Rattle.flat_image.specs.declared.act.Asked.TheVariants.{Uuid}
 use Rattle.flat_image.specs.declared.base.Base.{Base}
 use Rattle.flat_image.specs.declared.stands.Entry.{Entry}
-use Rattle.flat_image.specs.Sheets.{Cell, IsImage}
+use Rattle.flat_image.specs.Sheets.{Cell, IsSheet, IsImage}
 use Rattle.flat_image.specs.Frozen.{Frozen}
 use Rattle.flat_image.specs.CanonicalFiles.{file_of}
-use Rattle.flat_image.specs.LayerReading.{IsLayer}
+use Rattle.flat_image.specs.LayerReading.{sheet_in, uuid_in, IsLayer}
 use Rattle.flat_image.specs.Base.{holes, top_uuid, image_of, IsBase}
 use Rattle.flat_image.specs.Entries.{entry, StartsWith}
 use Rattle.flat_image.specs.History.{History, step, now, after, written, rows_taken, sectors_taken, committed, frozen, pending, sheet_at, used_rows, used_sectors, keeps, kept, Proper}
@@ -108,3 +109,9 @@ AfterIsImage base history = IsBase base → Proper base history → AllReadBack 
 -- what a base reads as is an image
 abbrev pub BaseIsImage : Base → Type 0
 BaseIsImage base = IsBase base → IsImage base.sectors (image_of base)
+
+-- what is read of a layer file is what the layer has
+pub record ReadsLayer (file : List ℕ) (head : Head) (sheet : List Cell) : Type 0 where
+  pub cells : sheet_in file ≡ sheet
+  pub name : uuid_in file ≡ head.uuid
+  pub whole : IsSheet head.sectors sheet

@@ -1,6 +1,9 @@
-ghost use Rattle.std.specs.Prelude.{List};
+ghost use Rattle.std.specs.Prelude.{ℕ, List};
+ghost use Rattle.lsmt_header.specs.declared.head.Head.{Head};
+ghost use Rattle.flat_image.specs.Sheets.{Cell};
+ghost use Rattle.flat_image.specs.LayerFiles.{LayerFile};
 ghost use Rattle.flat_image.specs.History.{History};
-ghost use Rattle.flat_image.specs.HistoryLaws.{TopIsSinceFreeze, UsedIsSum, FreezeTakesTop, FrozenStays, SealAddsFile, KeptIsPlace, KeptReaches, LeavesNow, BaseStays, AfterIsImage, BaseIsImage};
+ghost use Rattle.flat_image.specs.HistoryLaws.{TopIsSinceFreeze, UsedIsSum, FreezeTakesTop, FrozenStays, SealAddsFile, KeptIsPlace, KeptReaches, LeavesNow, BaseStays, AfterIsImage, BaseIsImage, ReadsLayer};
 
 use crate::base::Base;
 
@@ -17,4 +20,5 @@ pub fn history_laws()
     ensures base { (base : Base) (history : History) → BaseStays base history }
     ensures image { (base : Base) (history : History) → AfterIsImage base history }
     ensures whole { (base : Base) → BaseIsImage base }
+    ensures read { (file : List ℕ) (head : Head) (sheet : List Cell) → LayerFile file head sheet → ReadsLayer file head sheet }
 {}

@@ -1,4 +1,5 @@
 use Rattle.flat_image.proofs.HistoryLaws.{top_since-freeze, used-sum, freeze-takes_top, frozen-stays, seal-adds_file, kept-is_place, kept-reaches, base-stays, after-is_image, base-is_image}
+use Rattle.flat_image.proofs.LayerLaws.{reads-layer}
 use Rattle.flat_image.proofs.LeftLaws.{leaves-now}
 use Rattle.flat_image.proofs.laws.history_laws.Goals as goal
 
@@ -15,4 +16,5 @@ returns c = record {
   base = base-stays;
   image = after-is_image;
   whole = base-is_image;
+  read = reads-layer;
 }
