@@ -1,6 +1,7 @@
 -- The fields of a block stand at their places, and a block is that of one head.
-use Rattle.std.proofs.Common.{◌≡◌, ℕ, ◌+◌, ◌^◌, ◌<◌, List, [], ◌∷◌, ◌++◌, length, take, drop, refl, sym, ap, ◌∙◌, arith}
+use Rattle.std.proofs.Common.{subst, ◌≡◌, ℕ, ◌+◌, ◌^◌, ◌<◌, List, [], ◌∷◌, ◌++◌, length, take, drop, refl, sym, ap, ◌∙◌, arith}
 use Rattle.std.specs.List.{concat}
+use Rattle.std.specs.Prelude.{slice_set}
 use Rattle.std.specs.Int.{w32, w64, to_le_bytes, from_le_bytes}
 use Rattle.std.proofs.Math.Seq.{drop-append-add}
 use Rattle.std.proofs.lemmas.List.{take_at, length-replicate}
@@ -8,7 +9,7 @@ use Rattle.std.proofs.lemmas.Nat.{from_le_bytes-to_le_bytes_4, from_le_bytes-to_
 use Rattle.lsmt_header.specs.declared.head.Head.{Head}
 use Rattle.lsmt_header.specs.declared.head.Kind.{Kind}
 use Rattle.lsmt_header.specs.declared.head.Kind.TheVariants.{SealedHead, SealedEnd, TopBytes, TopRows}
-use Rattle.lsmt_header.specs.Blocks.{RawHead, fields_of, raw_block, part, raw_head, IsSized, flags_of, Fits, IsValid, raw_of, BlockOf}
+use Rattle.lsmt_header.specs.Blocks.{RawHead, fields_of, raw_block, part, raw_head, IsSized, flags_of, IsSealed, Fits, IsValid, raw_of, BlockOf}
 use Rattle.lsmt_header.proofs.TagLemmas.{length-padded, padded-same}
 
 total : List (List ℕ) → ℕ
@@ -98,3 +99,17 @@ one_head bytes one other h k =
     let parent = ap (λ (raw : RawHead). raw.parent) fields in
     let tag = padded-same one.tag other.tag h.fits.tag k.fits.tag (ap (λ (raw : RawHead). raw.tag) fields) in
     λ i. record { version = version i; kind = kind i; index_at = index_at i; rows = rows i; sectors = sectors i; uuid = uuid i; parent = parent i; tag = tag i }
+
+-- the block at the front of a sealed layer, with the flags of the one at its end
+end_spelled : (head : Head) → slice_set (raw_block (raw_of (record head { kind = SealedHead }))) 12 6 ≡ raw_block (raw_of (record head { kind = SealedEnd }))
+unfolding raw_block
+end_spelled head = refl
+
+pub end_block : (bytes : List ℕ) (head : Head) → head.kind ≡ SealedHead → BlockOf bytes head → BlockOf (slice_set bytes 12 6) (record head { kind = SealedEnd })
+end_block bytes head same of =
+    let front : head ≡ record head { kind = SealedHead } = λ i. record head { kind = same i } in
+    record {
+      spelled = ap (λ (x : List ℕ). slice_set x 12 6) (of.spelled ∙ ap (λ (h : Head). raw_block (raw_of h)) front) ∙ end_spelled head;
+      valid = record { version = of.valid.version; size = of.valid.size; named = λ sealed. of.valid.named (subst IsSealed (sym same) tt) };
+      fits = record { index_at = of.fits.index_at; rows = of.fits.rows; uuid = of.fits.uuid; parent = of.fits.parent; tag = of.fits.tag };
+    }

@@ -1,5 +1,6 @@
-ghost use Rattle.std.specs.Prelude.{◌≡◌, ℕ, List, IfOk, IfErr, Ok};
+ghost use Rattle.std.specs.Prelude.{◌≡◌, ℕ, List, IfOk, IfErr, Ok, slice_set};
 ghost use Rattle.lsmt_header.specs.declared.head.Head.{Head};
+ghost use Rattle.lsmt_header.specs.declared.head.Kind.TheVariants.{SealedHead, SealedEnd};
 ghost use Rattle.lsmt_header.specs.Blocks.{IsValid, BlockOf, RawHead, raw_head, raw_block, IsSized};
 ghost use Rattle.lsmt_header.specs.Faults.{IsFault, IsClean};
 
@@ -51,4 +52,10 @@ pub fn decode_block(block: &[u8; 4096], kind: Kind) -> Result<Head, HeadFault>
 pub fn one_block()
     ensures heads { (bytes : List ℕ) (one other : Head) → BlockOf bytes one → BlockOf bytes other → one ≡ other }
     ensures blocks { (one other : List ℕ) (head : Head) → BlockOf one head → BlockOf other head → one ≡ other }
+{}
+
+/// The block at the end of a sealed layer is the block at its front with 6 for the flags, at byte 12.
+pub fn block_at_the_end()
+    ensures { (bytes : List ℕ) (head : Head) → head.kind ≡ SealedHead → BlockOf bytes head
+        → BlockOf (slice_set bytes 12 6) (record head { kind = SealedEnd }) }
 {}

@@ -8,7 +8,7 @@ mod head;
 mod tag;
 mod zeros;
 
-pub use block::{decode_block, encode_block, one_block};
+pub use block::{block_at_the_end, decode_block, encode_block, one_block};
 pub use head::{Head, HeadFault, Kind};
 pub use tag::Tag;
 
