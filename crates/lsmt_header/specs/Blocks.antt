@@ -95,9 +95,13 @@ IsSize sectors = (1 ≤ sectors) × (sectors ≤ 2 ^ 31)
 abbrev pub nil : List ℕ
 nil = replicate {A = ℕ} 16 0
 
+-- the version that a block of this kind may have
+abbrev pub IsVersion : Kind → ℕ → Type 0
+IsVersion kind version = version ≡ 1
+
 -- what a head has to be
 pub record IsValid (head : Head) : Type 0 where
-  pub version : head.version ≡ 1
+  pub version : IsVersion head.kind head.version
   pub size : IsSize head.sectors
   pub named : IsSealed head.kind → head.uuid ≢ nil
 

@@ -4,20 +4,20 @@ use Rattle.lsmt_header.specs.declared.head.Kind.{Kind}
 use Rattle.lsmt_header.specs.declared.head.HeadFault.{HeadFault}
 use Rattle.lsmt_header.specs.declared.head.HeadFault.TheVariants.{BadMagic, BadVersion, Compressed, BadFlags, BadSize, NilUuid, BadTag, Unclean}
 use Rattle.lsmt_header.specs.Tags.{IsTagText, padded}
-use Rattle.lsmt_header.specs.Blocks.{RawHead, magic, flags_of, IsSealed, IsSize, nil}
+use Rattle.lsmt_header.specs.Blocks.{RawHead, magic, flags_of, IsVersion, IsSealed, IsSize, nil}
 
 -- what passes the first test, the first two, and so on
 abbrev pub HasMagic : RawHead → Type 0
 HasMagic raw = raw.magic ≡ magic
 
-abbrev pub HasVersion : RawHead → Type 0
-HasVersion raw = HasMagic raw × (raw.version ≡ 1)
+abbrev pub HasVersion : Kind → RawHead → Type 0
+HasVersion kind raw = HasMagic raw × IsVersion kind raw.version
 
-abbrev pub IsPlain : RawHead → Type 0
-IsPlain raw = HasVersion raw × (bit_and raw.flags 8 ≡ 0)
+abbrev pub IsPlain : Kind → RawHead → Type 0
+IsPlain kind raw = HasVersion kind raw × (bit_and raw.flags 8 ≡ 0)
 
 abbrev pub IsOfKind : Kind → RawHead → Type 0
-IsOfKind kind raw = IsPlain raw × (raw.flags ≡ flags_of kind)
+IsOfKind kind raw = IsPlain kind raw × (raw.flags ≡ flags_of kind)
 
 abbrev pub HasSize : Kind → RawHead → Type 0
 HasSize kind raw = IsOfKind kind raw × IsSize raw.sectors
@@ -41,9 +41,9 @@ pub record IsFirstSet (bytes : List ℕ) (at : ℕ) : Type 0 where
 -- the fault is that of the first test that fails
 abbrev pub IsFault : Kind → RawHead → HeadFault → Type 0
 IsFault kind raw BadMagic = ¬ HasMagic raw
-IsFault kind raw (BadVersion version) = HasMagic raw × (version ≡ raw.version) × (version ≢ 1)
-IsFault kind raw Compressed = HasVersion raw × (bit_and raw.flags 8 ≢ 0)
-IsFault kind raw (BadFlags flags) = IsPlain raw × (flags ≡ raw.flags) × (flags ≢ flags_of kind)
+IsFault kind raw (BadVersion version) = HasMagic raw × (version ≡ raw.version) × ¬ IsVersion kind version
+IsFault kind raw Compressed = HasVersion kind raw × (bit_and raw.flags 8 ≢ 0)
+IsFault kind raw (BadFlags flags) = IsPlain kind raw × (flags ≡ raw.flags) × (flags ≢ flags_of kind)
 IsFault kind raw (BadSize sectors) = IsOfKind kind raw × (sectors ≡ raw.sectors) × ¬ IsSize sectors
 IsFault kind raw NilUuid = HasSize kind raw × IsSealed kind × (raw.uuid ≡ nil)
 IsFault kind raw BadTag = IsNamed kind raw × ((text : List ℕ) → IsTagText text → raw.tag ≡ padded text → ⊥)

@@ -1,15 +1,12 @@
 -- A row is the fields of its two words, and two rows with the same words are one.
-use Rattle.std.proofs.Common.{◌≡◌, ◌≢◌, ℕ, ◌+◌, ◌*◌, ◌/◌, ◌%◌, ◌^◌, ◌<◌, Bool, true, false, nat_eq, List, [], ◌++◌, length, refl, sym, ap, ◌∙◌, arith, cond}
-use Rattle.std.specs.Int.{w64, to_le_bytes}
+use Rattle.std.proofs.Common.{take, drop, ◌≡◌, ◌≢◌, ℕ, ◌+◌, ◌*◌, ◌/◌, ◌%◌, ◌^◌, ◌<◌, Bool, true, false, nat_eq, List, [], ◌++◌, length, refl, sym, ap, ◌∙◌, arith, cond}
+use Rattle.std.specs.Int.{w64, to_le_bytes, from_le_bytes}
+use Rattle.std.proofs.lemmas.Nat.{from_le_bytes-to_le_bytes_8}
 use Rattle.std.proofs.lemmas.List.{append-nil, nil_from_length}
 use Rattle.std.proofs.lemmas.Bool.{eqb-true, eqb-false}
 use Rattle.byte_fields.proofs.Fronts.{split_same, same_u64_le}
 use Rattle.seg_mapping.specs.declared.Row.{Row}
-use Rattle.seg_mapping.specs.Rows.{Fits, RowOf, first_word, second_word, spelling}
-
--- the row whose words these are
-abbrev pub row_in : ℕ → ℕ → Row
-row_in first second = record { offset = first % 2 ^ 50; count = first / 2 ^ 50; place = second % 2 ^ 55; zeroed = nat_eq (second / 2 ^ 55 % 2) 1; tag = second / 2 ^ 56 }
+use Rattle.seg_mapping.specs.Rows.{row_in, Fits, RowOf, first_word, second_word, spelling}
 
 -- 16 bytes that were read as two words
 pub words_are : (bytes behind rest : List ℕ) (first second : ℕ) → length bytes ≡ 16 → bytes ≡ to_le_bytes w64 first ++ behind → behind ≡ to_le_bytes w64 second ++ rest
@@ -78,3 +75,13 @@ unfolding spelling
 one_row bytes one other h k =
     let words = words_of bytes (first_word one) (second_word one) other (first_word-below one h.fits) (second_word-below one h.fits h.tag) h.spelled k in
     sym (row_in-words one h.fits) ∙ ap (λ (n : ℕ). row_in n (second_word one)) words.0 ∙ ap (λ (n : ℕ). row_in (first_word other) n) words.1 ∙ row_in-words other k.fits
+
+-- the two numbers of 16 bytes that are a row are that row's
+pub row_in-bytes : (bytes : List ℕ) (row : Row) → RowOf bytes row → row_in (from_le_bytes w64 (take 8 bytes)) (from_le_bytes w64 (take 8 (drop 8 bytes))) ≡ row
+unfolding spelling
+row_in-bytes bytes row of =
+    let first : from_le_bytes w64 (take 8 bytes) ≡ first_word row =
+    ap (λ (b : List ℕ). from_le_bytes w64 (take 8 b)) of.spelled ∙ from_le_bytes-to_le_bytes_8 (first_word row) (first_word-below row of.fits) in
+    let second : from_le_bytes w64 (take 8 (drop 8 bytes)) ≡ second_word row =
+    ap (λ (b : List ℕ). from_le_bytes w64 (take 8 (drop 8 b))) of.spelled ∙ from_le_bytes-to_le_bytes_8 (second_word row) (second_word-below row of.fits of.tag) in
+    ap (λ (n : ℕ). row_in n (from_le_bytes w64 (take 8 (drop 8 bytes)))) first ∙ ap (row_in (first_word row)) second ∙ row_in-words row of.fits

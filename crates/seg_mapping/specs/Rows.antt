@@ -1,5 +1,5 @@
 -- A row of an index: five fields in two numbers of 64 bits, the lowest byte first.
-use Rattle.std.specs.Prelude.{◌≡◌, ℕ, ◌+◌, ◌*◌, ◌/◌, ◌^◌, ◌<◌, ◌≤◌, List, ◌++◌, take, if◌then◌else◌}
+use Rattle.std.specs.Prelude.{◌≡◌, ℕ, ◌+◌, ◌*◌, ◌/◌, ◌%◌, ◌^◌, ◌==◌, ◌<◌, ◌≤◌, List, ◌++◌, take, if◌then◌else◌}
 use Rattle.std.specs.Int.{w64, to_le_bytes, from_le_bytes}
 use Rattle.seg_mapping.specs.declared.Row.{Row}
 
@@ -30,3 +30,7 @@ pub record RowOf (bytes : List ℕ) (row : Row) : Type 0 where
 -- the count that the bytes say
 abbrev pub count_in : List ℕ → ℕ
 count_in bytes = from_le_bytes w64 (take 8 bytes) / 2 ^ 50
+
+-- the row whose two numbers are these, if its count is not 0
+abbrev pub row_in : ℕ → ℕ → Row
+row_in first second = record { offset = first % 2 ^ 50; count = first / 2 ^ 50; place = second % 2 ^ 55; zeroed = second / 2 ^ 55 % 2 == 1; tag = second / 2 ^ 56 }
