@@ -1,9 +1,8 @@
 -- Lists of seats.
-use Rattle.std.proofs.Common.{◌≡◌, ◌≢◌, ◌⊎◌, ℕ, zero, suc, ◌+◌, ◌-◌, ◌<◌, ◌≤◌, List, [], ◌∷◌, ◌++◌, length, slice_get, get_or, All, Bool, true, false, Option, Some, None, refl, sym, ap, ◌∙◌, subst, inl, inr, ⊎_elim, arith, length-append}
+use Rattle.std.proofs.Common.{◌≡◌, ◌⊎◌, ℕ, zero, suc, ◌+◌, ◌-◌, ◌<◌, List, [], ◌∷◌, ◌++◌, length, slice_get, get_or, All, false, Option, Some, refl, sym, ap, ◌∙◌, subst, inl, inr, ⊎_elim, arith, length-append}
 use Rattle.std.proofs.lemmas.Option.{slice_get-get_or}
 use Rattle.atomic_table.specs.Seated.{TableId}
 use Rattle.atomic_table.specs.Table.{Me}
-use Rattle.flat_image.specs.declared.stands.Entry.{Entry}
 use Rattle.turn_lock.specs.declared.rule.View.{View}
 use Rattle.turn_lock.specs.Locks.{Place, place, AreSeats}
 use Rattle.turn_lock.specs.Passes.{place_of, IsSeat, AreNew}
@@ -45,7 +44,14 @@ module _ {V A : Type 0} where
 
 module _ {A : Type 0} where
   pub new_seats : (z : TableId) (n : ℕ) (seats : List (Place A)) → AreNew z n seats → AreSeats z n seats
-  new_seats z n seats new = record { all = new.all; each = λ k s e. let is = new.each k s e in is ∙ ap (λ (l : List (Entry A)). place z k l false) (sym (ap (λ (x : Place A). x.seen) is)) }
+  new_seats z n seats new =
+      let is : (k : ℕ) (d : Place A) → k < length seats → get_or seats k d ≡ place z k [] false = λ k d lt. new.each k (get_or seats k d) (slice_get-get_or seats k d lt) in
+      record {
+        all = new.all;
+        lock_is = λ k d lt. ap (λ (x : Place A). x.lock) (is k d lt);
+        numbered = λ k d lt. ap (λ (x : Place A). x.number) (is k d lt);
+        idle = λ k d lt. ap (λ (x : Place A). x.holds) (is k d lt);
+      }
 
   pub new_fresh : (z : TableId) (n : ℕ) (seats : List (Place A)) → AreNew z n seats → All (λ s. s.seen ≡ []) seats
   new_fresh z n seats new k d lt = ap (λ (x : Place A). x.seen) (new.each k (get_or seats k d) (slice_get-get_or seats k d lt))

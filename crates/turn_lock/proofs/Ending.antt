@@ -1,12 +1,11 @@
 -- How a lock ends.
-use Rattle.std.proofs.Common.{◌≡◌, ◌≢◌, ◌⊎◌, ℕ, zero, suc, ◌+◌, ◌-◌, ◌*◌, ◌<◌, ◌≤◌, List, [], ◌∷◌, ◌++◌, length, All, Option, Some, None, refl, sym, ap, ◌∙◌, subst, arith, length-append}
-use mathlib.Core.Option.{some, none, some-injective}
+use Rattle.std.proofs.Common.{◌≡◌, ℕ, suc, ◌-◌, ◌<◌, List, Option, Some, None, refl, sym, ap, ◌∙◌, subst, arith, length-append}
+use mathlib.Core.Option.{some, some-injective}
 use lib.ListN.{get_elem?}
 use Rattle.std.proofs.lemmas.List.{get_or_append_left}
 use Rattle.std.proofs.lemmas.List.Elements.{All-weaker}
 use Rattle.atomic_table.specs.Table.{State, Final, Seen}
 use Rattle.flat_image.specs.declared.stands.Entry.{Entry}
-use Rattle.flat_image.specs.Entries.{calls_by, StartsWith}
 use Rattle.turn_lock.specs.declared.rule.Kept.{Kept}
 use Rattle.turn_lock.specs.declared.rule.View.{View}
 use Rattle.turn_lock.specs.Ruled.{IsKept, Knows, Ruled}

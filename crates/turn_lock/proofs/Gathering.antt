@@ -1,14 +1,15 @@
 -- The seats of a lock, joined into one pass.
-use Rattle.std.proofs.Common.{◌≡◌, ◌≢◌, ◌⊎◌, ◌==◌, ℕ, zero, suc, ◌+◌, ◌-◌, ◌<◌, ◌≤◌, List, [], ◌∷◌, ◌++◌, length, slice_get, Bool, true, false, Option, Some, None, refl, sym, ap, ◌∙◌, subst, arith, append_assoc, append-nil, length-append, nat_eq, eq-eqb}
+use Rattle.std.proofs.Common.{◌≡◌, ◌==◌, ℕ, zero, suc, ◌-◌, ◌<◌, ◌≤◌, List, [], ◌∷◌, ◌++◌, length, slice_get, get_or, false, Option, Some, refl, sym, ap, ◌∙◌, subst, arith, append_assoc, append-nil, length-append}
 use mathlib.Core.Logic.{dite}
 use native.Mathlib.Decide.{ℕ_discrete}
+use Rattle.std.proofs.lemmas.Option.{slice_get-get_or, get_or_from_slice_get}
 use Rattle.atomic_table.specs.Seated.{TableId}
 use Rattle.atomic_table.specs.Table.{Me}
 use Rattle.flat_image.specs.declared.stands.Entry.{Entry}
-use Rattle.flat_image.specs.Entries.{calls_by, StartsWith}
+use Rattle.flat_image.specs.Entries.{calls_by}
 use Rattle.turn_lock.specs.declared.rule.View.{View}
-use Rattle.turn_lock.specs.Locks.{Lock, Place, place, AreSeats, IsHistory}
-use Rattle.turn_lock.specs.Passes.{place_of, IsSeat, Has, Gathers, Ends}
+use Rattle.turn_lock.specs.Locks.{Lock, Place, AreSeats, IsHistory}
+use Rattle.turn_lock.specs.Passes.{place_of, IsSeat, Backed, Has, Gathers, Ends}
 use Rattle.turn_lock.specs.Plays.{joined}
 use Rattle.turn_lock.proofs.Dealing.{get_mid, get_below}
 use Rattle.turn_lock.proofs.Ending.{has_own, has_more, has_other}
@@ -29,14 +30,16 @@ module _ {V A : Type 0} where
 
   pub apart : (lock : TableId) (n k : ℕ) (all : List (Place A)) (s : Place A) (z : TableId) (m : Me (Option V) (View A)) → AreSeats lock n all → slice_get all k ≡ Some s → IsSeat m → s ≡ place_of z m → Taken lock k s z m
   apart lock n k all s z m seats at seat is =
-      let e : place_of z m ≡ place lock k s.seen false = sym is ∙ seats.each k s at in
-      let none_held = bit_zero m.0.holds seat.bit (ap (λ (x : Place A). x.holds) e) in
+      let lt = get_below all k s at in
+      let there : get_or all k s ≡ s = get_or_from_slice_get all k s s at in
+      let idle : s.holds ≡ false = subst (λ (x : Place A). x.holds ≡ false) there (seats.idle k s lt) in
+      let none_held = bit_zero m.0.holds seat.bit (sym (ap (λ (x : Place A). x.holds) is) ∙ idle) in
       record {
-        same = ap (λ (x : Place A). x.lock) e;
+        same = sym (ap (λ (x : Place A). x.lock) is) ∙ subst (λ (x : Place A). x.lock ≡ lock) there (seats.lock_is k s lt);
         idle = none_held;
         empty = seat.without none_held;
-        tag = let t : m.0.tag - 1 ≡ k = ap (λ (x : Place A). x.number) e in omega (arith, t, seat.numbered);
-        seen = ap (λ (x : Place A). x.seen) e;
+        tag = let t : m.0.tag - 1 ≡ k = sym (ap (λ (x : Place A). x.number) is) ∙ subst (λ (x : Place A). x.number ≡ k) there (seats.numbered k s lt) in omega (arith, t, seat.numbered);
+        seen = sym (ap (λ (x : Place A). x.seen) is);
       }
 
 module _ {A : Type 0} where
@@ -113,15 +116,16 @@ module _ {V A B : Type 0} (stands : V → B → ℕ → List (Entry A) → Type 
   -- what the seats had seen is in the history with which the lock ends
   pub closes : (lock : TableId) (n : ℕ) (all : List (Place A)) (v : View A) (value : V) → AreSeats lock n all → Gathers all v → Ends stands base first n value v
       → (history : List (Entry A)) × stands value base first history × IsHistory all history
-  closes lock n all v value seats g e = (
-    e.history,
-    e.stood,
-    record {
-      begins = λ k s at. (g k s at e.history e.owner e.at e.backed).begun;
-      own = λ k s at. ((g k s at e.history e.owner e.at e.backed).own k refl).1;
-      no_others = λ k le. e.no_others k (omega (arith, seats.all, le));
-    },
-  )
+  closes lock n all v value seats g e =
+      let has : (k : ℕ) (d : Place A) → k < length all → Backed e.history e.owner e.at (suc k) (get_or all k d).seen = λ k d lt. g k (get_or all k d) (slice_get-get_or all k d lt) e.history e.owner e.at e.backed in (
+        e.history,
+        e.stood,
+        record {
+          begins = λ k d lt. (has k d lt).begun;
+          own = λ k d lt. subst (λ n. calls_by n e.history ≡ calls_by n (get_or all k d).seen) (sym (seats.numbered k d lt)) ((has k d lt).own k refl).1;
+          no_others = λ k le. e.no_others k (omega (arith, seats.all, le));
+        },
+      )
 
   -- each number below the count is one of a seat
   pub all_gathered : (lock : TableId) (n : ℕ) (all : List (Place A)) (v : View A) → AreSeats lock n all → Gathers all v → (k : ℕ) → k < n → (seen : List (Entry A)) × Has v k seen

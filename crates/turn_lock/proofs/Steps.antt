@@ -1,5 +1,5 @@
 -- Each step keeps the rule.
-use Rattle.std.proofs.Common.{◌≡◌, ◌≢◌, ◌⊎◌, ℕ, zero, suc, ◌+◌, ◌-◌, ◌*◌, ◌%◌, ◌^◌, ◌<◌, ◌≤◌, Bool, true, false, cond, eqb, eq-eqb, ne_eqb, zero-lt-suc, le_refl, List, [], ◌∷◌, ◌++◌, length, set, slice_index, Option, Some, None, All, refl, sym, ap, ◌∙◌, subst, inl, inr, ⊎_elim, arith, length-append}
+use Rattle.std.proofs.Common.{◌≡◌, ◌≢◌, ◌⊎◌, ℕ, zero, suc, ◌+◌, ◌-◌, ◌*◌, ◌%◌, ◌^◌, ◌<◌, ◌≤◌, cond, eqb, eq-eqb, ne_eqb, le_refl, List, [], ◌∷◌, ◌++◌, length, set, slice_index, Option, Some, None, All, refl, sym, ap, ◌∙◌, subst, inl, inr, ⊎_elim, arith, length-append}
 use mathlib.Core.Option.{some, none, some-injective, some-ne-none}
 use mathlib.Core.Logic.{dite}
 use native.Mathlib.Decide.{ℕ_discrete}
@@ -11,10 +11,9 @@ use Rattle.atomic_table.proofs.Lists.{at_set, set_else, set_again, at_longer, ex
 use Rattle.flat_image.specs.declared.stands.Entry.{Entry}
 use Rattle.flat_image.specs.Entries.{entry, calls_by, StartsWith}
 use Rattle.flat_image.proofs.Entries.{StartsWith-self, StartsWith-nil, StartsWith-longer, calls_by-other}
-use Rattle.turn_lock.specs.declared.rule.Kept.{Kept}
 use Rattle.turn_lock.specs.declared.rule.View.{View}
 use Rattle.turn_lock.specs.Ruled.{Owned, IsKept, Knows, Ruled, opener}
-use Rattle.turn_lock.specs.Plays.{Continues, Sees, Looked, Taken, Claimed, named_as, noted, given, with_named, made_one, newcomer, note_of, list_of, joined, spent_view}
+use Rattle.turn_lock.specs.Plays.{Sees, Looked, Claimed, named_as, noted, given, with_named, made_one, newcomer, note_of, list_of, joined, spent_view}
 
 pub All-nil : {X : Type 0} (P : X → Type 0) → All P []
 All-nil P k d lt = absurd (omega arith)

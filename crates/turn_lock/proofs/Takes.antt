@@ -1,15 +1,18 @@
 -- From what the steps tell to what the calls promise.
-use Rattle.std.proofs.Common.{◌≡◌, ◌≢◌, ℕ, zero, suc, ◌+◌, ◌-◌, ◌*◌, ◌%◌, ◌^◌, ◌<◌, ◌≤◌, List, [], ◌∷◌, ◌++◌, length, All, Bool, true, false, Option, Some, None, refl, sym, ap, ◌∙◌, subst, arith}
+use Rattle.std.proofs.Common.{◌≡◌, ℕ, ◌+◌, ◌-◌, ◌%◌, ◌^◌, ◌<◌, List, [], ◌∷◌, ◌++◌, length, All, false, Option, Some, None, refl, sym, ap, ◌∙◌, subst, arith}
 use Rattle.atomic_table.specs.Seated.{TableId}
 use Rattle.atomic_table.specs.Table.{State, Me, rest, Allows}
 use Rattle.flat_image.specs.declared.stands.Entry.{Entry}
 use Rattle.flat_image.specs.Entries.{entry, calls_by, StartsWith}
 use Rattle.turn_lock.specs.declared.rule.View.{View}
 use Rattle.turn_lock.specs.Ruled.{Ruled}
-use Rattle.turn_lock.specs.Locks.{Place, place, IsLater}
+use Rattle.turn_lock.specs.Locks.{place, IsLater}
 use Rattle.turn_lock.specs.Passes.{place_of, IsSeat, HasTurn, IsWord}
-use Rattle.turn_lock.specs.Plays.{Continues, Sees, Looked, Taken, Claimed, named_as, noted, given, with_named, note_of, list_of, joined}
+use Rattle.turn_lock.specs.Plays.{Continues, Sees, Looked, Taken, named_as, noted, given, with_named, note_of, list_of, joined}
 use Rattle.turn_lock.proofs.Steps.{note, give}
+
+pub same_lock : (a b c : TableId) → a ≡ b → b ≡ c → a ≡ c
+same_lock a b c p q = p ∙ q
 
 -- a list of one slot
 pub whole : {S : Type 0} (c : List (ℕ × S)) (x : ℕ × S) → c ≡ x ∷ [] → c ≡ x ∷ rest c
@@ -66,8 +69,9 @@ module _ {V A B : Type 0} (stands : V → B → ℕ → List (Entry A) → Type 
       → HasTurn stands base first x m2
   took_turn m m1 m2 found x empty below t had e =
       let v = took_view m m1 m2 found t e in
-      let two : (0, Some t.value) ∷ [] ≡ (0, Some x) ∷ [] = sym (taken_slot m m1 found empty t) ∙ had in
-      let inner : Some t.value ≡ Some x = ap value_in two in
+      let slots : V → List (ℕ × Option V) = λ y. (0, Some y) ∷ [] in
+      let two : slots t.value ≡ slots x = sym (taken_slot m m1 found empty t) ∙ had in
+      let inner : Some t.value ≡ Some x = ap (value_in {S = V}) two in
       let same : t.value ≡ x = cc (inner) in
       let seen : m2.0.seen ≡ t.log = ap (λ (y : Pass V A). y.0.seen) v in
       record {

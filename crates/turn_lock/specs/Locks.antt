@@ -1,5 +1,5 @@
 -- What contracts see of a lock and of its seats.
-use Rattle.std.specs.Prelude.{◌≡◌, ℕ, ◌<◌, ◌≤◌, Bool, false, List, [], Some, length, slice_get}
+use Rattle.std.specs.Prelude.{◌≡◌, ℕ, ◌<◌, ◌≤◌, Bool, false, List, [], length, slice_index_or, All}
 use Rattle.atomic_table.specs.Seated.{TableId}
 use Rattle.flat_image.specs.declared.stands.Entry.{Entry}
 use Rattle.flat_image.specs.Entries.{calls_by, StartsWith}
@@ -31,11 +31,13 @@ pub record IsLater {A : Type 0} (old new : Place A) : Type 0 where
 -- all seats of a lock with that many, by number, none of which has the turn
 pub record AreSeats {A : Type 0} (lock : TableId) (count : ℕ) (seats : List (Place A)) : Type 0 where
   pub all : length seats ≡ count
-  pub each : (k : ℕ) (s : Place A) → slice_get seats k ≡ Some s → s ≡ place lock k s.seen false
+  pub lock_is : All (λ s. s.lock ≡ lock) seats
+  pub numbered : (k : ℕ) (d : Place A) → k < length seats → (slice_index_or seats k d).number ≡ k
+  pub idle : All (λ s. s.holds ≡ false) seats
 
 -- the history of a lock with these seats: it begins with what each has seen, and each entry has the number of one of
 -- them and is in what that one has seen
 pub record IsHistory {A : Type 0} (seats : List (Place A)) (history : List (Entry A)) : Type 0 where
-  pub begins : (k : ℕ) (s : Place A) → slice_get seats k ≡ Some s → StartsWith history s.seen
-  pub own : (k : ℕ) (s : Place A) → slice_get seats k ≡ Some s → calls_by k history ≡ calls_by k s.seen
+  pub begins : All (λ s. StartsWith history s.seen) seats
+  pub own : All (λ s. calls_by s.number history ≡ calls_by s.number s.seen) seats
   pub no_others : (k : ℕ) → length seats ≤ k → calls_by k history ≡ []

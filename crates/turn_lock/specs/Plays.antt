@@ -1,6 +1,6 @@
 -- What each atomic step tells the seat that makes it.
-use Rattle.std.specs.Prelude.{◌≡◌, ◌≢◌, ℕ, suc, ◌+◌, ◌-◌, ◌*◌, ◌<◌, ◌≤◌, Option, Some, None, List, [], ◌∷◌, ◌++◌, length, All}
-use Rattle.atomic_table.specs.Table.{Me, Step, rest}
+use Rattle.std.specs.Prelude.{◌≡◌, ◌≢◌, ℕ, suc, ◌+◌, ◌-◌, ◌*◌, ◌≤◌, Option, Some, None, List, [], ◌∷◌, ◌++◌, length, All}
+use Rattle.atomic_table.specs.Table.{Me, rest}
 use Rattle.flat_image.specs.declared.stands.Entry.{Entry}
 use Rattle.flat_image.specs.Entries.{entry, calls_by, StartsWith}
 use Rattle.turn_lock.specs.declared.rule.Kept.{Kept}

@@ -7,6 +7,8 @@ mod kinds;
 mod rule;
 mod said;
 mod seat;
+#[cfg(test)]
+mod tests;
 mod turn;
 mod worn;
 

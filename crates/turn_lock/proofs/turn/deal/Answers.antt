@@ -1,6 +1,4 @@
-use Rattle.std.proofs.Common.{◌≡◌, ◌+◌, ◌++◌, [], ◌∷◌, ◌∙◌, List, ap, sym, subst, arith, rules}
-use Rattle.turn_lock.specs.Locks.{Place}
-use Rattle.turn_lock.specs.Passes.{AreNew, place_of}
+use Rattle.std.proofs.Common.{arith, rules}
 use Rattle.turn_lock.proofs.Dealing.{new_more}
 use Rattle.turn_lock.proofs.turn.deal.Goals as goal
 

@@ -1,4 +1,4 @@
-use Rattle.std.proofs.Common.{rules, arith}
+use Rattle.std.proofs.Common.{arith}
 use Rattle.turn_lock.proofs.Steps.{look}
 use Rattle.turn_lock.proofs.desk.Desk.look.Goals as goal
 

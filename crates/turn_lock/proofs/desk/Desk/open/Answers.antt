@@ -1,4 +1,4 @@
-use Rattle.std.proofs.Common.{[], ◌∷◌, ◌*◌, sym, subst, Some}
+use Rattle.std.proofs.Common.{[], ◌∷◌, ◌*◌, sym, subst}
 use Rattle.atomic_table.specs.Table.{opening}
 use Rattle.turn_lock.specs.Ruled.{Ruled, opener}
 use Rattle.turn_lock.proofs.Steps.{opens}
