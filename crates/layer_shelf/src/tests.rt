@@ -38,11 +38,15 @@ fn a_shelf_over_real_files(rt: HostRuntime) -> Result<(), Fail> {
     fs::write(&rt, path.as_str(), [5, 6, 7].as_slice())?;
     let mut paths = Vec::new(rt.alloc());
     paths.push(PathText::from_vec(path.as_bytes().to_vec(rt.alloc())?))?;
-    paths.push(PathText::from_vec(b"/tmp/no such file".to_vec(rt.alloc())?))?;
+    for _ in 0..256 {
+        paths.push(PathText::from_vec(b"/tmp/no such file".to_vec(rt.alloc())?))?;
+    }
+    assert!(rt; paths.len() < 1000);
     let mut shelf = FolderShelf::new(rt, PathList::from_vec(paths));
-    assert_eq!(rt; shelf.count(), 2);
+    assert_eq!(rt; shelf.count(), 257);
     assert_eq!(rt; shelf.length(0), Ok(3));
     assert_eq!(rt; shelf.length(1), Err(ShelfFailed));
+    assert_eq!(rt; shelf.length(256), Err(ShelfFailed));
     let mut pair = [0; 2];
     assert_eq!(rt; shelf.read(0, 1, &mut pair), Ok(()));
     assert_eq!(rt; pair.as_slice(), [6, 7].as_slice());
