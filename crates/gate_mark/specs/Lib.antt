@@ -1,0 +1,4 @@
+pub mod Mark
+pub mod MarkFile
+pub mod Shown
+pub mod Through
