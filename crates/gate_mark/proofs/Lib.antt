@@ -1,3 +1,4 @@
 pub mod Front
+pub mod InTurn
 pub mod Runs
 pub mod SlotWrites

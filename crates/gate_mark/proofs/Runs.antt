@@ -1,6 +1,6 @@
 -- The steps of a set and of a format, and what a crash leaves after each.
-use Rattle.std.proofs.Common.{◌≡◌, ℕ, ◌+◌, ◌<◌, List, [], ◌∷◌, length, refl, sym, ap, ◌∙◌, subst, inl, inr, arith}
-use Rattle.std.specs.Prelude.{◌⊎◌, ◌^◌, replicate}
+use Rattle.std.proofs.Common.{◌≡◌, ℕ, ◌+◌, ◌<◌, List, [], ◌∷◌, refl, sym, ap, ◌∙◌, subst, inl, inr, arith}
+use Rattle.std.specs.Prelude.{◌^◌, replicate}
 use Rattle.block_disk.specs.Changes.{put, Torn}
 use Rattle.block_disk.specs.DiskState.{DiskState, Files}
 use Rattle.block_disk.specs.Claims.{FileRun, FileRunBy}
@@ -8,7 +8,7 @@ use Rattle.block_disk.proofs.Moments.{by_weakened, by_joined, run_weakened, run_
 use Rattle.gate_mark.specs.declared.mark.Mark.{Mark}
 use Rattle.gate_mark.specs.declared.mark.Rest.{Rest}
 use Rattle.gate_mark.specs.declared.mark.Rest.TheVariants.{Closed, Stale, Attempted}
-use Rattle.gate_mark.specs.declared.mark.Slot.TheVariants.{First, Second}
+use Rattle.gate_mark.specs.declared.mark.Slot.TheVariants.{First}
 use Rattle.gate_mark.specs.MarkFile.{base_of, other_of}
 use Rattle.gate_mark.specs.Mark.{Fits, MarkFits, IsKept, IsFilled, Attempts, ShowsEither, MarkShows}
 use Rattle.gate_mark.specs.Shown.{shown}
@@ -71,7 +71,7 @@ open_done mark at body old new is kept filled done c left =
     let same : c ≡ put put_now.0 (base_of (other_of mark.current)) (165 ∷ []) = put_now.2 ∙ ap (λ a. put put_now.0 a (165 ∷ [])) is in
     subst (Fits (other_of mark.current) (mark.sequence + 1) body Stale) (sym same)
     (opened_now mark.current mark.sequence mark.body body put_now.0
-      (attempt_fits mark.current mark.sequence mark.body body mark.rest put_now.0 (filled put_now.0 put_now.1) (kept put_now.0 put_now.1)))
+    (attempt_fits mark.current mark.sequence mark.body body mark.rest put_now.0 (filled put_now.0 put_now.1) (kept put_now.0 put_now.1)))
 
 -- a step during which one attempt may show
 as_attempt : (mark : Mark) (body : List ℕ) (attempt : Rest) (old new : DiskState)
@@ -106,7 +106,7 @@ set_opened mark closed body old mid filled new same first second third =
     by_joined (λ f. f ≡ mark.file) old filled new (λ (i : Rest) (files : Files). Attempts body mark.rest i × ShowsEither mark i (files mark.file))
     (set_filled mark closed body old mid filled same first second)
     (as_attempt mark body (Attempted body) filled new
-      (subst (λ (m : Mark). FileRun m.file filled new (Fits m.current m.sequence m.body (Attempted body))) same third) (inr (inr refl)))
+    (subst (λ (m : Mark). FileRun m.file filled new (Fits m.current m.sequence m.body (Attempted body))) same third) (inr (inr refl)))
 
 -- what a kept mark shows
 pub kept_shows : (now : DiskState) (mark : Mark) (file : ℕ) → mark.file ≡ file → IsKept now mark

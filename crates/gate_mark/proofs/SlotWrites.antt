@@ -1,11 +1,11 @@
 -- What writes make of the two slots.
-use Rattle.std.proofs.Common.{◌≡◌, ◌≢◌, ℕ, ◌+◌, ◌<◌, ◌≤◌, List, [], ◌∷◌, ◌++◌, length, refl, sym, ap, ◌∙◌, subst, arith, inl, inr, ⊎_elim, rules}
+use Rattle.std.proofs.Common.{◌≡◌, ℕ, ◌+◌, ◌<◌, ◌≤◌, List, [], ◌∷◌, ◌++◌, length, refl, sym, ap, ◌∙◌, subst, arith, inl, inr, ⊎_elim, rules}
 use Rattle.std.specs.Prelude.{◌⊎◌, ◌^◌, replicate, slice_index}
 use Rattle.std.specs.Int.{from_le_bytes, to_le_bytes, w64}
 use Rattle.std.proofs.lemmas.List.{append-nil, take_all, drop_all, get_or-replicate, length-replicate}
 use Rattle.std.proofs.lemmas.Nat.{from_le_bytes-to_le_bytes_8}
 use Rattle.block_disk.specs.Changes.{piece, put, Torn}
-use Rattle.block_disk.specs.ChangeLaws.{length-put, put_below, put_above, torn_put}
+use Rattle.block_disk.specs.ChangeLaws.{length-put, put_above, torn_put}
 use Rattle.block_disk.specs.Pieces.{torn_piece, put_inside, put_piece, put_piece_apart}
 use Rattle.gate_mark.specs.declared.mark.Rest.{Rest}
 use Rattle.gate_mark.specs.declared.mark.Rest.TheVariants.{Closed, Stale, Attempted}
@@ -52,7 +52,7 @@ own_kept : (slot : Slot) (from size : ℕ) (old new : List ℕ) → Torn from si
     → base_of (other_of slot) ≤ from → from + size ≤ base_of (other_of slot) + 512 → IsKeptSlot slot old new
 own_kept slot from size old new torn long above below =
     elim (slots_apart slot) [
-      inl a ↦ record {
+      | inl a ↦ record {
         gate = gate_kept slot from size old new torn long (inl (omega (arith, a)));
         number = sequence_kept slot from size old new torn long (inl (omega (arith, a)));
         content = body_kept slot from size old new torn long (inl (omega (arith, a)));
@@ -82,9 +82,9 @@ torn_gate slot sequence body rest old new not_closed torn fits =
       number = own.number ∙ fits.number;
       content = own.content ∙ fits.content;
       others = rest_kept rest (other_of slot) sequence old new not_closed
-        (sequence_kept (other_of slot) (base_of (other_of slot)) 1 old new torn fits.long (inr (omega arith)))
-        (body_kept (other_of slot) (base_of (other_of slot)) 1 old new torn fits.long (inr (omega arith)))
-        fits.others;
+          (sequence_kept (other_of slot) (base_of (other_of slot)) 1 old new torn fits.long (inr (omega arith)))
+          (body_kept (other_of slot) (base_of (other_of slot)) 1 old new torn fits.long (inr (omega arith)))
+          fits.others;
     }
 
 -- a write under the other slot's closed gate, torn or not, leaves it closed
@@ -193,9 +193,9 @@ attempt_bytes_hold sequence body len =
     record {
       len = length-put (put (replicate 56 0) 0 (to_le_bytes w64 sequence)) 8 body ∙ omega (arith, len, first);
       number =
-        put_piece_apart 0 8 8 (put (replicate 56 0) 0 (to_le_bytes w64 sequence)) body (omega (arith, first)) (inl (omega arith))
-        ∙ put_piece (replicate 56 0) 0 (to_le_bytes w64 sequence) 0 8 (omega (arith, eight))
-        ∙ take_all 8 (to_le_bytes w64 sequence) (omega (arith, eight));
+          put_piece_apart 0 8 8 (put (replicate 56 0) 0 (to_le_bytes w64 sequence)) body (omega (arith, first)) (inl (omega arith))
+          ∙ put_piece (replicate 56 0) 0 (to_le_bytes w64 sequence) 0 8 (omega (arith, eight))
+          ∙ take_all 8 (to_le_bytes w64 sequence) (omega (arith, eight));
       content = put_piece (put (replicate 56 0) 0 (to_le_bytes w64 sequence)) 8 body 0 48 (omega (arith, len)) ∙ take_all 48 body (omega (arith, len));
     }
 
@@ -221,8 +221,8 @@ formatted_now body bytes attempt =
       number = sequence_kept First 0 1 blank (put blank 0 (165 ∷ [])) torn long (inr (omega arith)) ∙ put_sequence First 1 body bytes (replicate 1024 0) (omega arith) attempt;
       content = body_kept First 0 1 blank (put blank 0 (165 ∷ [])) torn long (inr (omega arith)) ∙ put_body First 1 body bytes (replicate 1024 0) attempt;
       others = λ is_open.
-        let same = gate_kept Second 0 1 blank (put blank 0 (165 ∷ [])) torn long (inr (omega arith)) in
-        let closed = blank_gate bytes attempt.len in
-        let none : 0 ≡ 165 = sym closed ∙ sym same ∙ is_open in
-        absurd (omega (arith, none));
+          let same = gate_kept Second 0 1 blank (put blank 0 (165 ∷ [])) torn long (inr (omega arith)) in
+          let closed = blank_gate bytes attempt.len in
+          let none : 0 ≡ 165 = sym closed ∙ sym same ∙ is_open in
+          absurd (omega (arith, none));
     }

@@ -1,4 +1,5 @@
 pub mod Mark
 pub mod MarkFile
+pub mod Sets
 pub mod Shown
 pub mod Through

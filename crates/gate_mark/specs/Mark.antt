@@ -1,5 +1,5 @@
 -- A mark in memory, and what a crash may leave of its file.
-use Rattle.std.specs.Prelude.{◌≡◌, ◌≢◌, ℕ, ◌+◌, ◌^◌, ◌<◌, ◌≤◌, ◌⊎◌, List, length, Some, None, Result, Ok, Err}
+use Rattle.std.specs.Prelude.{◌≡◌, ◌≢◌, ℕ, ◌+◌, ◌^◌, ◌<◌, ◌≤◌, ◌⊎◌, List, length, None, Result, Ok, Err}
 use Rattle.block_disk.specs.DiskState.{DiskState}
 use Rattle.gate_mark.specs.declared.mark.Mark.{Mark}
 use Rattle.gate_mark.specs.declared.mark.MarkFault.{MarkFault}

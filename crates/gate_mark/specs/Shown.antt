@@ -1,15 +1,14 @@
 -- What the file of a mark holds.
-use Rattle.std.specs.Prelude.{◌≡◌, ◌≢◌, ℕ, ◌+◌, ◌<◌, ◌≤◌, ◌⊎◌, List, length, Bool, true, false, Option, None, Some, if◌then◌else◌, ◌==◌, nat_lt}
-use Rattle.std.proofs.Common.{refl, sym, ap, suc, ◌∙◌, subst, arith, inl, inr}
+use Rattle.std.specs.Prelude.{◌≡◌, ◌≢◌, ℕ, ◌+◌, ◌<◌, ◌≤◌, ◌⊎◌, List, length, Bool, true, false, None, Some, if◌then◌else◌, ◌==◌, nat_lt}
+use Rattle.std.proofs.Common.{refl, ap, suc, ◌∙◌, arith, inl, inr}
 use Rattle.std.proofs.lemmas.Bool.Decides.{leb_tells, eqb_tells}
 use Rattle.std.specs.Option.{option_map}
-use Rattle.gate_mark.specs.declared.mark.Mark.{Mark}
 use Rattle.gate_mark.specs.declared.mark.Rest.{Rest}
 use Rattle.gate_mark.specs.declared.mark.Rest.TheVariants.{Closed, Stale, Attempted}
 use Rattle.gate_mark.specs.declared.mark.Slot.{Slot}
 use Rattle.gate_mark.specs.declared.mark.Slot.TheVariants.{First, Second}
-use Rattle.gate_mark.specs.MarkFile.{other_of, gate_of, sequence_of, body_of, counted, counting, mark_of, Shows}
-use Rattle.gate_mark.specs.Mark.{Fits, RestFits, ShowsAttempt, ShowsEither, MarkFits, MarkShows}
+use Rattle.gate_mark.specs.MarkFile.{gate_of, sequence_of, body_of, counting, Shows}
+use Rattle.gate_mark.specs.Mark.{Fits, ShowsAttempt}
 
 pub is_open : (gate : ℕ) → gate ≡ 165 → (gate == 165) ≡ true
 is_open gate same = rw same refl

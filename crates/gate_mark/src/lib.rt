@@ -2,7 +2,10 @@
 #![tactic(auto)]
 
 mod mark;
+mod sets;
 mod slots;
+#[cfg(test)]
+mod tests;
 mod through;
 
 pub use mark::{Mark, MarkFault, Rest, Slot};

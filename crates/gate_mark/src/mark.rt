@@ -160,7 +160,11 @@ impl Mark {
         if !counting.is_open {
             return None;
         }
-        let rest = if first.is_open && second.is_open { Rest::Stale } else { Rest::Closed };
+        let rest = if first.is_open && second.is_open {
+            Rest::Stale
+        } else {
+            Rest::Closed
+        };
         let body = counting.body;
         Some(Mark {
             file,

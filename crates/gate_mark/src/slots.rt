@@ -61,7 +61,11 @@ pub(crate) fn read_slot(slots: &[u8; 1024], slot: Slot) -> SlotRead
 }
 
 /// Syncs the file and reads both slots. False where it has not so many bytes.
-pub(crate) fn read_both<D: Disk>(disk: &mut D, file: u32, out: &mut [u8; 1024]) -> Result<bool, DiskFailed>
+pub(crate) fn read_both<D: Disk>(
+    disk: &mut D,
+    file: u32,
+    out: &mut [u8; 1024],
+) -> Result<bool, DiskFailed>
     ensures long { IfOk result (λ is_long. IsTrue D.tells → (IsTrue is_long ↔ (1024 ≤ length ((D.state disk.old).seen file)))) }
     ensures bytes { IfOk result (λ is_long. IsTrue D.tells → IsTrue is_long → out.new ≡ piece 0 1024 ((D.state disk.old).seen file)) }
     ensures durable { OnOk result (Only ((D.state disk.old).seen file) ((D.state disk.new).may_leave file)) }

@@ -1,4 +1,4 @@
-use Rattle.std.proofs.Common.{◌≡◌, ℕ, ◌+◌, ◌-◌, length, take, drop, rules, ap, sym, ◌∙◌, arith, refl}
+use Rattle.std.proofs.Common.{◌≡◌, ◌+◌, ◌-◌, take, drop, ap, ◌∙◌, arith}
 use Rattle.std.specs.Prelude.{◌==◌, slice_index}
 use Rattle.std.specs.Int.{from_le_bytes, w64}
 use Rattle.block_disk.specs.Changes.{piece}
@@ -14,9 +14,9 @@ unfolding sequence_of
 returns-clause-sequence c =
     let eight : c.base-base.result + 16 - (c.base-base.result + 8) ≡ 8 = omega arith in
     let bytes : c.copy_from_slice.new.self ≡ piece (base_of c.args.slot + 8) 8 c.args.slots.now =
-        c.copy_from_slice.ensures.after
-        ∙ ap (λ n. take n (drop (c.base-base.result + 8) c.args.slots.now)) eight
-        ∙ ap (λ base. piece (base + 8) 8 c.args.slots.now) c.base-base.ensures in
+    c.copy_from_slice.ensures.after
+    ∙ ap (λ n. take n (drop (c.base-base.result + 8) c.args.slots.now)) eight
+    ∙ ap (λ base. piece (base + 8) 8 c.args.slots.now) c.base-base.ensures in
     c.from_le_bytes.ensures ∙ ap (from_le_bytes w64) bytes
 
 pub returns-clause-body : goal.returns-clause-body

@@ -2,7 +2,6 @@ use Rattle.std.proofs.Common.{◌≡◌, ℕ, List, length, refl}
 use Rattle.block_disk.specs.Changes.{put, Torn}
 use Rattle.block_disk.specs.ChangeLaws.{torn_same}
 use Rattle.block_disk.specs.DiskState.{DiskState, Files, Leaves, Steps}
-use Rattle.block_disk.specs.Claims.{FileRun}
 use Rattle.block_disk.proofs.Moments.{run_started, run_on, Held, held_same, settled}
 use Rattle.gate_mark.specs.Through.{IsTorn, IsPut}
 use Rattle.gate_mark.proofs.through.write_through.Goals as goal
@@ -12,8 +11,8 @@ written : (file at n : ℕ) (old new : DiskState) → ((files : Files) → old.l
     → Steps file (Torn at n) old new → Held file old new (IsTorn old file at n)
 written file at n old new now_at steps = record {
   run = run_on (λ f. f ≡ file) old old new (λ (files : Files). IsTorn old file at n (files file)) file (Torn at n)
-    (run_started (λ f. f ≡ file) old (λ (files : Files). IsTorn old file at n (files file)) now_at (λ files leaves. (files file, leaves file, torn_same at n (files file))))
-    refl steps (λ files leaves. steps.left (files file) (leaves file));
+      (run_started (λ f. f ≡ file) old (λ (files : Files). IsTorn old file at n (files file)) now_at (λ files leaves. (files file, leaves file, torn_same at n (files file))))
+      refl steps (λ files leaves. steps.left (files file) (leaves file));
   now = steps.left;
 }
 

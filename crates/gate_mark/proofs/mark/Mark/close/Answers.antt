@@ -1,4 +1,4 @@
-use Rattle.std.proofs.Common.{◌≡◌, ℕ, List}
+use Rattle.std.proofs.Common.{◌≡◌}
 use Rattle.block_disk.specs.DiskState.{Files}
 use Rattle.block_disk.proofs.Moments.{run_started}
 use Rattle.gate_mark.specs.Mark.{MarkFits}

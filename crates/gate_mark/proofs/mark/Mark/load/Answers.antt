@@ -12,4 +12,4 @@ pub returns-then-is_long-clause-kept : goal.returns-then-is_long-clause-kept
 returns-then-is_long-clause-kept g c =
     load_kept c.read.result c.args.file c.read_both.new.out ((g.D.Disk.state c.args.disk.now).seen c.args.file) (g.D.Disk.state c.read_both.new.disk) c.read.ensures.fits c.read.ensures.file
     (λ f left. let told = g.met.D.Disk.told c.read_both.new.disk c.args.file f left in
-      ((c.in-Ok.ensures.long told).0 c.if-is_long.true, c.in-Ok.ensures.bytes told c.if-is_long.true, c.in-Ok.ensures.durable f left))
+    ((c.in-Ok.ensures.long told).0 c.if-is_long.true, c.in-Ok.ensures.bytes told c.if-is_long.true, c.in-Ok.ensures.durable f left))

@@ -1,4 +1,4 @@
-use Rattle.std.proofs.Common.{◌≡◌, ℕ, ◌+◌, List, ap, ◌∙◌, rules}
+use Rattle.std.proofs.Common.{◌≡◌, rules}
 use Rattle.gate_mark.specs.declared.mark.Rest.TheVariants.{Attempted}
 use Rattle.gate_mark.specs.MarkFile.{base_of, other_of}
 use Rattle.gate_mark.specs.Mark.{Fits}

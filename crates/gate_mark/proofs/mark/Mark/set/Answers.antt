@@ -1,6 +1,5 @@
-use Rattle.std.proofs.Common.{◌≡◌, ℕ, List, ap, sym, ◌∙◌, rules}
+use Rattle.std.proofs.Common.{ap, ◌∙◌}
 use Rattle.gate_mark.specs.declared.mark.Mark.{Mark}
-use Rattle.gate_mark.specs.declared.mark.Rest.TheVariants.{Closed}
 use Rattle.gate_mark.proofs.Runs.{set_closed, set_filled, set_opened, kept_shows}
 use Rattle.gate_mark.proofs.mark.Mark.set.Goals as goal
 

@@ -1,5 +1,4 @@
-use Rattle.std.proofs.Common.{◌≡◌, ℕ, List, ap, ◌∙◌, rules}
-use Rattle.gate_mark.specs.declared.mark.Slot.{Slot}
+use Rattle.std.proofs.Common.{◌≡◌, rules}
 use Rattle.gate_mark.specs.MarkFile.{base_of, other_of}
 use Rattle.gate_mark.specs.Mark.{MarkFits}
 use Rattle.gate_mark.proofs.Runs.{torn_run, shut_lasts, shut_done}
