@@ -13,3 +13,6 @@ pub use laws::layer_laws;
 pub use layer::Layer;
 pub use painting::paint_part;
 pub use reading::read_layer;
+
+#[cfg(test)]
+mod tests;
