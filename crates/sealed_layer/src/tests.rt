@@ -301,6 +301,7 @@ fn layers_that_are_cut(rt: HostRuntime) -> Result<(), Fail> {
             assert_eq!(rt; found, answer, "at {sector} sectors");
         }
     }
+    assert!(rt; file.len() >= 8_193);
     let short = answer_of(&rt, rt.alloc(), &file[..8_191], &[])?;
     assert_eq!(rt; short, Err(LayerFault::Short));
     let longer = answer_of(&rt, rt.alloc(), &file[..8_193], &[])?;
@@ -328,7 +329,7 @@ fn layers_with_one_other_byte(rt: HostRuntime) -> Result<(), Fail> {
     ];
     for (at, byte, answer) in table {
         let mut file = first_layer(&rt, rt.alloc())?;
-        assert_eq!(rt; file.len(), 12_288);
+        assert!(rt; at < file.len());
         file[at] = byte;
         let found = answer_of(&rt, rt.alloc(), file.as_slice(), &[])?;
         assert_eq!(rt; found, answer, "at byte {at}");
@@ -439,7 +440,7 @@ fn a_shelf_that_fails(rt: HostRuntime) -> Result<(), Fail> {
     ];
     for (at, call, answer) in table {
         let mut file = first_layer(&rt, rt.alloc())?;
-        assert_eq!(rt; file.len(), 12_288);
+        assert!(rt; at < file.len());
         file[at] = 0xff;
         let found = answer_of(&rt, rt.alloc(), file.as_slice(), &[call])?;
         assert_eq!(rt; found, answer, "byte {at}, call {call}");
