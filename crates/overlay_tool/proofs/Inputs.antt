@@ -1,0 +1,37 @@
+-- Reading piece after piece.
+use Rattle.std.proofs.Common.{◌≡◌, ℕ, ◌+◌, ◌^◌, ◌<◌, ◌≤◌, List, [], ◌∷◌, ◌++◌, length, refl, sym, ap, ◌∙◌, subst, arith, length-append}
+use Rattle.std.specs.Prelude.{Option, Some, None, IfSome, Result, Ok, Err}
+use Rattle.std.specs.Io.KnownBytes.{Consumes, IsAtEnd}
+use Rattle.std.proofs.KnownBytes.{Consumes-nil, Consumes-trans, Consumes-whole}
+use Rattle.overlay_tool.specs.declared.input.InputFault.{InputFault}
+use Rattle.overlay_tool.specs.declared.input.InputFault.TheVariants.{Failed}
+use Rattle.overlay_tool.specs.Input.{HasInputCause, ReadsPiece}
+use Rattle.overlay_tool.specs.Causes.{TakesAtMost}
+
+pub none_read : (a : Option (List ℕ)) (bytes : List ℕ) → bytes ≡ [] → Consumes a a bytes
+none_read a bytes e = subst (Consumes a a) (sym e) (Consumes-nil a)
+
+pub read_step : (a b c : Option (List ℕ)) (before now : List ℕ) (room count : ℕ) → Consumes a b before → ReadsPiece b c before now room count → Consumes a c now
+read_step a b c before now room count p r = subst (Consumes a c) (sym r.grown) (Consumes-trans a b c before r.taken p r.consumed)
+
+pub read_size : (b c : Option (List ℕ)) (before now : List ℕ) (room count : ℕ) → ReadsPiece b c before now room count → length now ≡ length before + count
+read_size b c before now room count r = ap (length {A = ℕ}) r.grown ∙ length-append before r.taken ∙ ap (λ (k : ℕ). length before + k) r.size
+
+pub read_whole : (a b : Option (List ℕ)) (bytes : List ℕ) → Consumes a b bytes → IsAtEnd b → IfSome a (λ file. bytes ≡ file)
+read_whole a b bytes p end = Consumes-whole a b bytes (λ file. bytes ≡ file) p end refl
+
+pub too_long : (a b : Option (List ℕ)) (bytes : List ℕ) → Consumes a b bytes → 2 ^ 30 < length bytes → IfSome a (λ file. 2 ^ 30 < length file)
+too_long None b bytes p long = tt
+too_long (Some file) None bytes p long = absurd p
+too_long (Some file) (Some rest) bytes p long = omega (arith, long, ap (length {A = ℕ}) p, length-append bytes rest)
+
+pub takes_more : (a b c : Option (List ℕ)) (bytes : List ℕ) (most room : ℕ) → Consumes a b bytes → TakesAtMost b c room → length bytes + room ≤ most → TakesAtMost a c most
+takes_more a b c bytes most room p (more, q, few) within =
+    (bytes ++ more, Consumes-trans a b c bytes more p q, omega (arith, few, within, length-append bytes more))
+
+pub cause_after : {S T : Type 0} (start before now : ℕ) (r : Result S InputFault) (s : Result T InputFault) (fault : InputFault) → r ≡ Err fault → s ≡ Err fault → start ≤ before
+    → HasInputCause before now r → HasInputCause start now s
+cause_after start before now r s fault one other low cause = record {
+  later = let more = cause.later in omega (arith, more);
+  failed = λ e. let rose : before < now = cause.failed (let same : fault ≡ Failed = cc in one ∙ ap Err same) in omega (arith, rose);
+}

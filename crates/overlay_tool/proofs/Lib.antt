@@ -1,0 +1,10 @@
+pub mod Numbers
+pub mod Overlays
+pub mod ToldLayers
+pub mod Refusals
+pub mod Pieces
+pub mod Readings
+pub mod Inputs
+pub mod OneLayers
+pub mod ShelfCommands
+pub mod Tools

@@ -1,0 +1,9 @@
+pub mod Words
+pub mod Texts
+pub mod Reports
+pub mod Input
+pub mod Prints
+pub mod Flattening
+pub mod Causes
+pub mod Reading
+pub mod OneLayer

@@ -1,0 +1,49 @@
+-- Why the layers of a shelf were not read.
+use Rattle.std.specs.Prelude.{◌≡◌, ℕ, ◌<◌, List, Option, IfSome}
+use Rattle.layer_shelf.specs.Shelves.{file_at}
+use Rattle.layer_stack.specs.Faults.{IsStackFault}
+use Rattle.sealed_layer.specs.LayerFaults.{IsLayerFault}
+use Rattle.sealed_layer.specs.declared.fault.LayerFault.{LayerFault}
+use Rattle.sealed_layer.specs.declared.fault.LayerFault.TheVariants as f
+use Rattle.overlay_tool.specs.declared.refusal.Refusal.{Refusal}
+use Rattle.overlay_tool.specs.declared.refusal.Refusal.TheVariants.{Usage, SourceFault, SinkFault, ShelfFault, Memory, TooLong, NoLayer, Layer, Stack}
+use Rattle.overlay_tool.specs.Prints.{LayerSheet, AreLayers, heads_of}
+use Rattle.overlay_tool.specs.Causes.{IsOfFile, StopsAt}
+
+-- the refusal that a fault of the file of that number is
+abbrev pub refusal_of : ℕ → LayerFault → Refusal
+refusal_of number f.Failed = ShelfFault
+refusal_of number f.Memory = Memory
+refusal_of number f.Short = Layer number f.Short
+refusal_of number (f.Head fault) = Layer number (f.Head fault)
+refusal_of number f.TrailerDiffers = Layer number f.TrailerDiffers
+refusal_of number (f.TooManyRows rows) = Layer number (f.TooManyRows rows)
+refusal_of number f.BadIndexPlace = Layer number f.BadIndexPlace
+refusal_of number (f.Row row fault) = Layer number (f.Row row fault)
+refusal_of number (f.RowOrder row) = Layer number (f.RowOrder row)
+refusal_of number (f.RowRange row) = Layer number (f.RowRange row)
+refusal_of number (f.RowPlace row) = Layer number (f.RowPlace row)
+
+-- why file k was refused, over counts of the shelf's faults before and now
+abbrev pub IsFileRefusal : Option (List (List ℕ)) → ℕ → ℕ → ℕ → Refusal → Type 0
+IsFileRefusal files k before now (Layer number fault) = (number ≡ k) × IfSome files (λ list. IsLayerFault (file_at list k) fault) × IsOfFile fault
+IsFileRefusal files k before now ShelfFault = before < now
+IsFileRefusal files k before now Memory = Unit {0}
+IsFileRefusal files k before now (Stack fault) = ⊥
+IsFileRefusal files k before now Usage = ⊥
+IsFileRefusal files k before now SourceFault = ⊥
+IsFileRefusal files k before now SinkFault = ⊥
+IsFileRefusal files k before now TooLong = ⊥
+IsFileRefusal files k before now NoLayer = ⊥
+
+-- why the files were refused as a stack
+abbrev pub IsStackRefusal : Option (List (List ℕ)) → ℕ → ℕ → Refusal → Type 0
+IsStackRefusal files before now (Layer number fault) = IfSome files (λ list. StopsAt list number fault)
+IsStackRefusal files before now (Stack fault) = IfSome files (λ list. (layers : List LayerSheet) × AreLayers list layers × IsStackFault (heads_of layers) fault)
+IsStackRefusal files before now ShelfFault = before < now
+IsStackRefusal files before now Memory = Unit {0}
+IsStackRefusal files before now Usage = ⊥
+IsStackRefusal files before now SourceFault = ⊥
+IsStackRefusal files before now SinkFault = ⊥
+IsStackRefusal files before now TooLong = ⊥
+IsStackRefusal files before now NoLayer = ⊥

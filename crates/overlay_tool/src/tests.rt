@@ -1,0 +1,222 @@
+use crate::tool::{Status, run_tool};
+use crate::words::WordList;
+use byte_ports::{MemSink, MemSource};
+use layer_shelf::MemShelf;
+use sector_extent::{Bytes, CallList, FileTexts};
+use std::alloc::{AllocError, Global};
+use std::test::Fail;
+
+/// Rows (1, 2, place 8) and (2, 1, zeroed).
+const FILLED_ROW: [u8; 16] = [1, 0, 0, 0, 0, 0, 8, 0, 8, 0, 0, 0, 0, 0, 0, 0];
+const ZEROED_ROW: [u8; 16] = [2, 0, 0, 0, 0, 0, 4, 0, 0, 0, 0, 0, 0, 0, 0x80, 0];
+
+/// The block of a layer of 4 sectors whose index is at 4,096 + 1,024 where it has two sectors of data.
+fn block_of(flags: u8, uuid: u8, parent: u8, has_data: bool, rows: u8) -> [u8; 4096] {
+    let mut block = [0; 4096];
+    block[..8].copy_from_slice(b"OBDLAYR1");
+    block[8] = 1;
+    block[12] = flags;
+    block[17] = if has_data { 0x14 } else { 0x10 };
+    block[24] = rows;
+    block[32] = 4;
+    block[40..56].copy_from_slice(&[uuid; 16]);
+    block[56..72].copy_from_slice(&[parent; 16]);
+    block
+}
+
+/// A layer file with the two sectors S(61) and S(62) or none, and with one row or none.
+fn layer_file(alloc: Global, uuid: u8, parent: u8, has_data: bool, row: Option<[u8; 16]>) -> Result<Vec<u8>, AllocError> {
+    let rows = if row.is_some() { 1 } else { 0 };
+    let mut file = Vec::from_slice(alloc, &block_of(7, uuid, parent, has_data, rows))?;
+    if has_data {
+        file.extend_from_slice(&[0x61; 512])?;
+        file.extend_from_slice(&[0x62; 512])?;
+    }
+    if let Some(bytes) = row {
+        file.extend_from_slice(&bytes)?;
+        let size = file.len().min(8192);
+        file.resize(size.div_ceil(4096) * 4096, 0)?;
+    }
+    file.extend_from_slice(&block_of(6, uuid, parent, has_data, rows))?;
+    Ok(file)
+}
+
+/// L1, L2 and L3.
+fn first(alloc: Global) -> Result<Vec<u8>, AllocError> {
+    layer_file(alloc, 0x11, 0, true, Some(FILLED_ROW))
+}
+
+fn second(alloc: Global) -> Result<Vec<u8>, AllocError> {
+    layer_file(alloc, 0x22, 0x11, false, None)
+}
+
+fn third(alloc: Global) -> Result<Vec<u8>, AllocError> {
+    layer_file(alloc, 0x33, 0x11, false, Some(ZEROED_ROW))
+}
+
+fn bytes_of(alloc: Global, bytes: &[u8]) -> Result<Bytes, AllocError> {
+    Ok(Bytes::from_vec(Vec::from_slice(alloc, bytes)?))
+}
+
+fn no_calls(alloc: Global) -> CallList {
+    CallList::from_vec(Vec::new(alloc))
+}
+
+/// What a run answers and writes.
+#[derive(Drop)]
+struct Ran {
+    status: Status,
+    out: Bytes,
+    notes: Bytes,
+}
+
+fn run(rt: &HostRuntime, words: &[&str], input: &[u8], files: Vec<Bytes>) -> Result<Ran, AllocError> {
+    let mut list = Vec::new(rt.alloc());
+    for word in words {
+        list.push(bytes_of(rt.alloc(), word.as_bytes())?)?;
+    }
+    assert!(rt; files.len() < 9);
+    let mut source = MemSource::new(bytes_of(rt.alloc(), input)?, no_calls(rt.alloc()));
+    let mut out = MemSink::new(rt.alloc(), no_calls(rt.alloc()));
+    let mut notes = MemSink::new(rt.alloc(), no_calls(rt.alloc()));
+    let mut shelf = MemShelf::new(FileTexts::from_vec(files), no_calls(rt.alloc()));
+    let words = WordList::from_vec(list);
+    let status = run_tool(rt.alloc(), &words, &mut source, &mut out, &mut notes, &mut shelf);
+    Ok(Ran {
+        status,
+        out: out.into_bytes(),
+        notes: notes.into_bytes(),
+    })
+}
+
+fn is_refused(rt: &HostRuntime, ran: &Ran, code: u8, line: &str) {
+    assert_eq!(rt; ran.status.code, code, "{line}");
+    assert_eq!(rt; ran.notes.as_slice(), line.as_bytes(), "{line}");
+    assert_eq!(rt; ran.out.as_slice().len(), 0, "{line}");
+}
+
+/// The sectors whose first bytes these are, each of one byte.
+fn is_image(rt: &HostRuntime, ran: &Ran, sectors: &[u8]) -> Result<(), AllocError> {
+    let mut image = Vec::new(rt.alloc());
+    for byte in sectors {
+        image.extend_from_slice(&[*byte; 512])?;
+    }
+    assert_eq!(rt; ran.status.code, 0);
+    assert_eq!(rt; ran.out.as_slice(), image.as_slice());
+    assert_eq!(rt; ran.notes.as_slice().len(), 0);
+    Ok(())
+}
+
+#[test]
+fn a_layer_from_the_source_is_flattened(rt: HostRuntime) -> Result<(), Fail> {
+    let ran = run(&rt, &["flatten", "--stdin"], first(rt.alloc())?.as_slice(), Vec::new(rt.alloc()))?;
+    is_image(&rt, &ran, &[0, 0x61, 0x62, 0])?;
+    let upper = run(&rt, &["flatten", "--stdin"], third(rt.alloc())?.as_slice(), Vec::new(rt.alloc()))?;
+    is_image(&rt, &upper, &[0, 0, 0, 0])?;
+    Ok(())
+}
+
+/// Two files, the lower one first.
+fn pair(alloc: Global, lower: Vec<u8>, upper: Vec<u8>) -> Result<Vec<Bytes>, AllocError> {
+    let mut files = Vec::new(alloc);
+    files.push(Bytes::from_vec(lower))?;
+    files.push(Bytes::from_vec(upper))?;
+    Ok(files)
+}
+
+#[test]
+fn a_stack_is_flattened(rt: HostRuntime) -> Result<(), Fail> {
+    let empty_over = pair(rt.alloc(), first(rt.alloc())?, second(rt.alloc())?)?;
+    is_image(&rt, &run(&rt, &["flatten"], b"", empty_over)?, &[0, 0x61, 0x62, 0])?;
+    let zeros_over = pair(rt.alloc(), first(rt.alloc())?, third(rt.alloc())?)?;
+    is_image(&rt, &run(&rt, &["flatten"], b"", zeros_over)?, &[0, 0x61, 0, 0])?;
+    let turned = pair(rt.alloc(), second(rt.alloc())?, first(rt.alloc())?)?;
+    is_refused(&rt, &run(&rt, &["flatten"], b"", turned)?, 3, "refused: layer 0 parent\n");
+    let none = Vec::new(rt.alloc());
+    is_refused(&rt, &run(&rt, &["flatten"], b"", none)?, 3, "refused: stack empty\n");
+    Ok(())
+}
+
+#[test]
+fn layers_are_told(rt: HostRuntime) -> Result<(), Fail> {
+    let files = pair(rt.alloc(), first(rt.alloc())?, second(rt.alloc())?)?;
+    let head = run(&rt, &["info", "0"], b"", files)?;
+    let lines = "layer 0\nuuid 11111111-1111-1111-1111-111111111111\nparent none\nsectors 4\nrows 1\nindex 5120\ntag -\n";
+    assert_eq!(rt; head.status.code, 0);
+    assert_eq!(rt; head.out.as_slice(), lines.as_bytes());
+    let files = pair(rt.alloc(), first(rt.alloc())?, second(rt.alloc())?)?;
+    let stack = run(&rt, &["stack"], b"", files)?;
+    let lines = "0 11111111-1111-1111-1111-111111111111 sectors 4 rows 1\n1 22222222-2222-2222-2222-222222222222 sectors 4 rows 0\n";
+    assert_eq!(rt; stack.status.code, 0);
+    assert_eq!(rt; stack.out.as_slice(), lines.as_bytes());
+    let files = pair(rt.alloc(), first(rt.alloc())?, second(rt.alloc())?)?;
+    is_refused(&rt, &run(&rt, &["info", "02"], b"", files)?, 6, "refused: no layer\n");
+    Ok(())
+}
+
+#[test]
+fn a_file_that_is_no_layer_is_refused(rt: HostRuntime) -> Result<(), Fail> {
+    let cases = [
+        (0, b'X', "refused: layer 0: bad magic\n"),
+        (8, 2, "refused: layer 0: bad version 2\n"),
+        (12, 15, "refused: layer 0: compressed\n"),
+        (12, 5, "refused: layer 0: bad flags 5\n"),
+        (32, 0, "refused: layer 0: bad size 0\n"),
+        (72, 0xFF, "refused: layer 0: bad tag\n"),
+        (331, 1, "refused: layer 0: unclean 331\n"),
+        (8300, 1, "refused: layer 0: trailer differs\n"),
+        (5126, 0, "refused: layer 0: row 0 empty\n"),
+        (5120, 3, "refused: layer 0: row 0 range\n"),
+        (5128, 7, "refused: layer 0: row 0 place\n"),
+    ];
+    for (at, byte, line) in cases {
+        let mut file = first(rt.alloc())?;
+        assert!(rt; at < file.len());
+        file[at] = byte;
+        let none = Vec::new(rt.alloc());
+        is_refused(&rt, &run(&rt, &["flatten", "--stdin"], file.as_slice(), none)?, 3, line);
+    }
+    for input in [b"".as_slice(), [0; 8191].as_slice()] {
+        let none = Vec::new(rt.alloc());
+        is_refused(&rt, &run(&rt, &["flatten", "--stdin"], input, none)?, 3, "refused: layer 0: short\n");
+    }
+    Ok(())
+}
+
+#[test]
+fn words_that_are_no_command_are_refused(rt: HostRuntime) -> Result<(), Fail> {
+    let cases: [&[&str]; 8] = [
+        &[],
+        &["flat"],
+        &["flatten", "--stdout"],
+        &["info"],
+        &["info", "+1"],
+        &["info", "2147483649"],
+        &["stack", "0"],
+        &["flatten", "--stdin", "x"],
+    ];
+    for words in cases {
+        let none = Vec::new(rt.alloc());
+        is_refused(&rt, &run(&rt, words, b"", none)?, 2, "refused: usage\n");
+    }
+    Ok(())
+}
+
+#[test]
+fn a_failing_source_is_told(rt: HostRuntime) -> Result<(), Fail> {
+    let mut list = Vec::new(rt.alloc());
+    list.push(bytes_of(rt.alloc(), b"flatten")?)?;
+    list.push(bytes_of(rt.alloc(), b"--stdin")?)?;
+    let words = WordList::from_vec(list);
+    let failing = CallList::from_vec([1].to_vec(rt.alloc())?);
+    let mut source = MemSource::new(Bytes::from_vec(first(rt.alloc())?), failing);
+    let mut out = MemSink::new(rt.alloc(), no_calls(rt.alloc()));
+    let mut notes = MemSink::new(rt.alloc(), no_calls(rt.alloc()));
+    let files = FileTexts::from_vec(Vec::new(rt.alloc()));
+    let mut shelf = MemShelf::new(files, no_calls(rt.alloc()));
+    let status = run_tool(rt.alloc(), &words, &mut source, &mut out, &mut notes, &mut shelf);
+    assert_eq!(rt; status.code, 4);
+    assert_eq!(rt; notes.into_bytes().as_slice(), b"refused: source fault\n".as_slice());
+    assert_eq!(rt; out.into_bytes().as_slice().len(), 0);
+    Ok(())
+}
