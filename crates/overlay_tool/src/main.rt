@@ -11,11 +11,10 @@ mod reading;
 mod refusal;
 mod reports;
 mod stacks;
-mod tool;
-mod words;
-
 #[cfg(test)]
 mod tests;
+mod tool;
+mod words;
 
 use crate::refusal::Refusal;
 use crate::tool::{refuse, run_tool};

@@ -8,6 +8,7 @@ use std::test::Fail;
 
 /// Rows (1, 2, place 8) and (2, 1, zeroed).
 const FILLED_ROW: [u8; 16] = [1, 0, 0, 0, 0, 0, 8, 0, 8, 0, 0, 0, 0, 0, 0, 0];
+
 const ZEROED_ROW: [u8; 16] = [2, 0, 0, 0, 0, 0, 4, 0, 0, 0, 0, 0, 0, 0, 0x80, 0];
 
 /// The block of a layer of 4 sectors whose index is at 4,096 + 1,024 where it has two sectors of data.
@@ -25,7 +26,13 @@ fn block_of(flags: u8, uuid: u8, parent: u8, has_data: bool, rows: u8) -> [u8; 4
 }
 
 /// A layer file with the two sectors S(61) and S(62) or none, and with one row or none.
-fn layer_file(alloc: Global, uuid: u8, parent: u8, has_data: bool, row: Option<[u8; 16]>) -> Result<Vec<u8>, AllocError> {
+fn layer_file(
+    alloc: Global,
+    uuid: u8,
+    parent: u8,
+    has_data: bool,
+    row: Option<[u8; 16]>,
+) -> Result<Vec<u8>, AllocError> {
     let rows = if row.is_some() { 1 } else { 0 };
     let mut file = Vec::from_slice(alloc, &block_of(7, uuid, parent, has_data, rows))?;
     if has_data {
@@ -70,7 +77,12 @@ struct Ran {
     notes: Bytes,
 }
 
-fn run(rt: &HostRuntime, words: &[&str], input: &[u8], files: Vec<Bytes>) -> Result<Ran, AllocError> {
+fn run(
+    rt: &HostRuntime,
+    words: &[&str],
+    input: &[u8],
+    files: Vec<Bytes>,
+) -> Result<Ran, AllocError> {
     let mut list = Vec::new(rt.alloc());
     for word in words {
         list.push(bytes_of(rt.alloc(), word.as_bytes())?)?;
@@ -81,7 +93,14 @@ fn run(rt: &HostRuntime, words: &[&str], input: &[u8], files: Vec<Bytes>) -> Res
     let mut notes = MemSink::new(rt.alloc(), no_calls(rt.alloc()));
     let mut shelf = MemShelf::new(FileTexts::from_vec(files), no_calls(rt.alloc()));
     let words = WordList::from_vec(list);
-    let status = run_tool(rt.alloc(), &words, &mut source, &mut out, &mut notes, &mut shelf);
+    let status = run_tool(
+        rt.alloc(),
+        &words,
+        &mut source,
+        &mut out,
+        &mut notes,
+        &mut shelf,
+    );
     Ok(Ran {
         status,
         out: out.into_bytes(),
@@ -109,9 +128,19 @@ fn is_image(rt: &HostRuntime, ran: &Ran, sectors: &[u8]) -> Result<(), AllocErro
 
 #[test]
 fn a_layer_from_the_source_is_flattened(rt: HostRuntime) -> Result<(), Fail> {
-    let ran = run(&rt, &["flatten", "--stdin"], first(rt.alloc())?.as_slice(), Vec::new(rt.alloc()))?;
+    let ran = run(
+        &rt,
+        &["flatten", "--stdin"],
+        first(rt.alloc())?.as_slice(),
+        Vec::new(rt.alloc()),
+    )?;
     is_image(&rt, &ran, &[0, 0x61, 0x62, 0])?;
-    let upper = run(&rt, &["flatten", "--stdin"], third(rt.alloc())?.as_slice(), Vec::new(rt.alloc()))?;
+    let upper = run(
+        &rt,
+        &["flatten", "--stdin"],
+        third(rt.alloc())?.as_slice(),
+        Vec::new(rt.alloc()),
+    )?;
     is_image(&rt, &upper, &[0, 0, 0, 0])?;
     Ok(())
 }
@@ -127,13 +156,31 @@ fn pair(alloc: Global, lower: Vec<u8>, upper: Vec<u8>) -> Result<Vec<Bytes>, All
 #[test]
 fn a_stack_is_flattened(rt: HostRuntime) -> Result<(), Fail> {
     let empty_over = pair(rt.alloc(), first(rt.alloc())?, second(rt.alloc())?)?;
-    is_image(&rt, &run(&rt, &["flatten"], b"", empty_over)?, &[0, 0x61, 0x62, 0])?;
+    is_image(
+        &rt,
+        &run(&rt, &["flatten"], b"", empty_over)?,
+        &[0, 0x61, 0x62, 0],
+    )?;
     let zeros_over = pair(rt.alloc(), first(rt.alloc())?, third(rt.alloc())?)?;
-    is_image(&rt, &run(&rt, &["flatten"], b"", zeros_over)?, &[0, 0x61, 0, 0])?;
+    is_image(
+        &rt,
+        &run(&rt, &["flatten"], b"", zeros_over)?,
+        &[0, 0x61, 0, 0],
+    )?;
     let turned = pair(rt.alloc(), second(rt.alloc())?, first(rt.alloc())?)?;
-    is_refused(&rt, &run(&rt, &["flatten"], b"", turned)?, 3, "refused: layer 0 parent\n");
+    is_refused(
+        &rt,
+        &run(&rt, &["flatten"], b"", turned)?,
+        3,
+        "refused: layer 0 parent\n",
+    );
     let none = Vec::new(rt.alloc());
-    is_refused(&rt, &run(&rt, &["flatten"], b"", none)?, 3, "refused: stack empty\n");
+    is_refused(
+        &rt,
+        &run(&rt, &["flatten"], b"", none)?,
+        3,
+        "refused: stack empty\n",
+    );
     Ok(())
 }
 
@@ -141,16 +188,23 @@ fn a_stack_is_flattened(rt: HostRuntime) -> Result<(), Fail> {
 fn layers_are_told(rt: HostRuntime) -> Result<(), Fail> {
     let files = pair(rt.alloc(), first(rt.alloc())?, second(rt.alloc())?)?;
     let head = run(&rt, &["info", "0"], b"", files)?;
-    let lines = "layer 0\nuuid 11111111-1111-1111-1111-111111111111\nparent none\nsectors 4\nrows 1\nindex 5120\ntag -\n";
+    let lines =
+        "layer 0\nuuid 11111111-1111-1111-1111-111111111111\nparent none\nsectors 4\nrows 1\nindex 5120\ntag -\n";
     assert_eq!(rt; head.status.code, 0);
     assert_eq!(rt; head.out.as_slice(), lines.as_bytes());
     let files = pair(rt.alloc(), first(rt.alloc())?, second(rt.alloc())?)?;
     let stack = run(&rt, &["stack"], b"", files)?;
-    let lines = "0 11111111-1111-1111-1111-111111111111 sectors 4 rows 1\n1 22222222-2222-2222-2222-222222222222 sectors 4 rows 0\n";
+    let lines =
+        "0 11111111-1111-1111-1111-111111111111 sectors 4 rows 1\n1 22222222-2222-2222-2222-222222222222 sectors 4 rows 0\n";
     assert_eq!(rt; stack.status.code, 0);
     assert_eq!(rt; stack.out.as_slice(), lines.as_bytes());
     let files = pair(rt.alloc(), first(rt.alloc())?, second(rt.alloc())?)?;
-    is_refused(&rt, &run(&rt, &["info", "02"], b"", files)?, 6, "refused: no layer\n");
+    is_refused(
+        &rt,
+        &run(&rt, &["info", "02"], b"", files)?,
+        6,
+        "refused: no layer\n",
+    );
     Ok(())
 }
 
@@ -174,11 +228,21 @@ fn a_file_that_is_no_layer_is_refused(rt: HostRuntime) -> Result<(), Fail> {
         assert!(rt; at < file.len());
         file[at] = byte;
         let none = Vec::new(rt.alloc());
-        is_refused(&rt, &run(&rt, &["flatten", "--stdin"], file.as_slice(), none)?, 3, line);
+        is_refused(
+            &rt,
+            &run(&rt, &["flatten", "--stdin"], file.as_slice(), none)?,
+            3,
+            line,
+        );
     }
     for input in [b"".as_slice(), [0; 8191].as_slice()] {
         let none = Vec::new(rt.alloc());
-        is_refused(&rt, &run(&rt, &["flatten", "--stdin"], input, none)?, 3, "refused: layer 0: short\n");
+        is_refused(
+            &rt,
+            &run(&rt, &["flatten", "--stdin"], input, none)?,
+            3,
+            "refused: layer 0: short\n",
+        );
     }
     Ok(())
 }
@@ -214,9 +278,19 @@ fn a_failing_source_is_told(rt: HostRuntime) -> Result<(), Fail> {
     let mut notes = MemSink::new(rt.alloc(), no_calls(rt.alloc()));
     let files = FileTexts::from_vec(Vec::new(rt.alloc()));
     let mut shelf = MemShelf::new(files, no_calls(rt.alloc()));
-    let status = run_tool(rt.alloc(), &words, &mut source, &mut out, &mut notes, &mut shelf);
+    let status = run_tool(
+        rt.alloc(),
+        &words,
+        &mut source,
+        &mut out,
+        &mut notes,
+        &mut shelf,
+    );
     assert_eq!(rt; status.code, 4);
-    assert_eq!(rt; notes.into_bytes().as_slice(), b"refused: source fault\n".as_slice());
+    assert_eq!(rt;
+        notes.into_bytes().as_slice(),
+        b"refused: source fault\n".as_slice()
+    );
     assert_eq!(rt; out.into_bytes().as_slice().len(), 0);
     Ok(())
 }
