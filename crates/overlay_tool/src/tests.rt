@@ -4,6 +4,7 @@ use byte_ports::{MemSink, MemSource};
 use layer_shelf::MemShelf;
 use sector_extent::{Bytes, CallList, FileTexts};
 use std::alloc::{AllocError, Global};
+use std::process::Abort;
 use std::test::Fail;
 
 /// Rows (1, 2, place 8) and (2, 1, zeroed).
@@ -78,29 +79,23 @@ struct Ran {
 }
 
 fn run(
-    rt: &HostRuntime,
+    rt: &impl Abort,
+    alloc: Global,
     words: &[&str],
     input: &[u8],
     files: Vec<Bytes>,
 ) -> Result<Ran, AllocError> {
-    let mut list = Vec::new(rt.alloc());
+    let mut list = Vec::new(alloc);
     for word in words {
-        list.push(bytes_of(rt.alloc(), word.as_bytes())?)?;
+        list.push(bytes_of(alloc, word.as_bytes())?)?;
     }
     assert!(rt; files.len() < 9);
-    let mut source = MemSource::new(bytes_of(rt.alloc(), input)?, no_calls(rt.alloc()));
-    let mut out = MemSink::new(rt.alloc(), no_calls(rt.alloc()));
-    let mut notes = MemSink::new(rt.alloc(), no_calls(rt.alloc()));
-    let mut shelf = MemShelf::new(FileTexts::from_vec(files), no_calls(rt.alloc()));
+    let mut source = MemSource::new(bytes_of(alloc, input)?, no_calls(alloc));
+    let mut out = MemSink::new(alloc, no_calls(alloc));
+    let mut notes = MemSink::new(alloc, no_calls(alloc));
+    let mut shelf = MemShelf::new(FileTexts::from_vec(files), no_calls(alloc));
     let words = WordList::from_vec(list);
-    let status = run_tool(
-        rt.alloc(),
-        &words,
-        &mut source,
-        &mut out,
-        &mut notes,
-        &mut shelf,
-    );
+    let status = run_tool(alloc, &words, &mut source, &mut out, &mut notes, &mut shelf);
     Ok(Ran {
         status,
         out: out.into_bytes(),
@@ -108,15 +103,15 @@ fn run(
     })
 }
 
-fn is_refused(rt: &HostRuntime, ran: &Ran, code: u8, line: &str) {
+fn is_refused(rt: &impl Abort, ran: &Ran, code: u8, line: &str) {
     assert_eq!(rt; ran.status.code, code, "{line}");
     assert_eq!(rt; ran.notes.as_slice(), line.as_bytes(), "{line}");
     assert_eq!(rt; ran.out.as_slice().len(), 0, "{line}");
 }
 
 /// The sectors whose first bytes these are, each of one byte.
-fn is_image(rt: &HostRuntime, ran: &Ran, sectors: &[u8]) -> Result<(), AllocError> {
-    let mut image = Vec::new(rt.alloc());
+fn is_image(rt: &impl Abort, alloc: Global, ran: &Ran, sectors: &[u8]) -> Result<(), AllocError> {
+    let mut image = Vec::new(alloc);
     for byte in sectors {
         image.extend_from_slice(&[*byte; 512])?;
     }
@@ -130,18 +125,20 @@ fn is_image(rt: &HostRuntime, ran: &Ran, sectors: &[u8]) -> Result<(), AllocErro
 fn a_layer_from_the_source_is_flattened(rt: HostRuntime) -> Result<(), Fail> {
     let ran = run(
         &rt,
+        rt.alloc(),
         &["flatten", "--stdin"],
         first(rt.alloc())?.as_slice(),
         Vec::new(rt.alloc()),
     )?;
-    is_image(&rt, &ran, &[0, 0x61, 0x62, 0])?;
+    is_image(&rt, rt.alloc(), &ran, &[0, 0x61, 0x62, 0])?;
     let upper = run(
         &rt,
+        rt.alloc(),
         &["flatten", "--stdin"],
         third(rt.alloc())?.as_slice(),
         Vec::new(rt.alloc()),
     )?;
-    is_image(&rt, &upper, &[0, 0, 0, 0])?;
+    is_image(&rt, rt.alloc(), &upper, &[0, 0, 0, 0])?;
     Ok(())
 }
 
@@ -158,26 +155,28 @@ fn a_stack_is_flattened(rt: HostRuntime) -> Result<(), Fail> {
     let empty_over = pair(rt.alloc(), first(rt.alloc())?, second(rt.alloc())?)?;
     is_image(
         &rt,
-        &run(&rt, &["flatten"], b"", empty_over)?,
+        rt.alloc(),
+        &run(&rt, rt.alloc(), &["flatten"], b"", empty_over)?,
         &[0, 0x61, 0x62, 0],
     )?;
     let zeros_over = pair(rt.alloc(), first(rt.alloc())?, third(rt.alloc())?)?;
     is_image(
         &rt,
-        &run(&rt, &["flatten"], b"", zeros_over)?,
+        rt.alloc(),
+        &run(&rt, rt.alloc(), &["flatten"], b"", zeros_over)?,
         &[0, 0x61, 0, 0],
     )?;
     let turned = pair(rt.alloc(), second(rt.alloc())?, first(rt.alloc())?)?;
     is_refused(
         &rt,
-        &run(&rt, &["flatten"], b"", turned)?,
+        &run(&rt, rt.alloc(), &["flatten"], b"", turned)?,
         3,
         "refused: layer 0 parent\n",
     );
     let none = Vec::new(rt.alloc());
     is_refused(
         &rt,
-        &run(&rt, &["flatten"], b"", none)?,
+        &run(&rt, rt.alloc(), &["flatten"], b"", none)?,
         3,
         "refused: stack empty\n",
     );
@@ -187,13 +186,13 @@ fn a_stack_is_flattened(rt: HostRuntime) -> Result<(), Fail> {
 #[test]
 fn layers_are_told(rt: HostRuntime) -> Result<(), Fail> {
     let files = pair(rt.alloc(), first(rt.alloc())?, second(rt.alloc())?)?;
-    let head = run(&rt, &["info", "0"], b"", files)?;
+    let head = run(&rt, rt.alloc(), &["info", "0"], b"", files)?;
     let lines =
         "layer 0\nuuid 11111111-1111-1111-1111-111111111111\nparent none\nsectors 4\nrows 1\nindex 5120\ntag -\n";
     assert_eq!(rt; head.status.code, 0);
     assert_eq!(rt; head.out.as_slice(), lines.as_bytes());
     let files = pair(rt.alloc(), first(rt.alloc())?, second(rt.alloc())?)?;
-    let stack = run(&rt, &["stack"], b"", files)?;
+    let stack = run(&rt, rt.alloc(), &["stack"], b"", files)?;
     let lines =
         "0 11111111-1111-1111-1111-111111111111 sectors 4 rows 1\n1 22222222-2222-2222-2222-222222222222 sectors 4 rows 0\n";
     assert_eq!(rt; stack.status.code, 0);
@@ -201,7 +200,7 @@ fn layers_are_told(rt: HostRuntime) -> Result<(), Fail> {
     let files = pair(rt.alloc(), first(rt.alloc())?, second(rt.alloc())?)?;
     is_refused(
         &rt,
-        &run(&rt, &["info", "02"], b"", files)?,
+        &run(&rt, rt.alloc(), &["info", "02"], b"", files)?,
         6,
         "refused: no layer\n",
     );
@@ -230,7 +229,13 @@ fn a_file_that_is_no_layer_is_refused(rt: HostRuntime) -> Result<(), Fail> {
         let none = Vec::new(rt.alloc());
         is_refused(
             &rt,
-            &run(&rt, &["flatten", "--stdin"], file.as_slice(), none)?,
+            &run(
+                &rt,
+                rt.alloc(),
+                &["flatten", "--stdin"],
+                file.as_slice(),
+                none,
+            )?,
             3,
             line,
         );
@@ -239,7 +244,7 @@ fn a_file_that_is_no_layer_is_refused(rt: HostRuntime) -> Result<(), Fail> {
         let none = Vec::new(rt.alloc());
         is_refused(
             &rt,
-            &run(&rt, &["flatten", "--stdin"], input, none)?,
+            &run(&rt, rt.alloc(), &["flatten", "--stdin"], input, none)?,
             3,
             "refused: layer 0: short\n",
         );
@@ -261,7 +266,12 @@ fn words_that_are_no_command_are_refused(rt: HostRuntime) -> Result<(), Fail> {
     ];
     for words in cases {
         let none = Vec::new(rt.alloc());
-        is_refused(&rt, &run(&rt, words, b"", none)?, 2, "refused: usage\n");
+        is_refused(
+            &rt,
+            &run(&rt, rt.alloc(), words, b"", none)?,
+            2,
+            "refused: usage\n",
+        );
     }
     Ok(())
 }
