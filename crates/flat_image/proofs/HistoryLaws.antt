@@ -20,9 +20,10 @@ use Rattle.flat_image.specs.Base.{holes, top_uuid, pending_of, sheet_list, sheet
 use Rattle.flat_image.specs.Entries.{entry, StartsWith}
 use Rattle.flat_image.specs.History.{History, step, now, after, changed, written, rows_taken, sectors_taken, sealed_over, committed, frozen, used_rows, used_sectors, keeps, kept_from, kept, Proper, Allowed, HasRoom, is_fault, fault_count}
 use Rattle.flat_image.specs.Left.{Kept, moves_layers}
-use Rattle.flat_image.specs.HistoryLaws.{freezes, has_freeze, since_freeze, TopIsSinceFreeze, UsedIsSum, FreezeTakesTop, FrozenStays, SealAddsFile, KeptIsPlace, KeptReaches, ReadsBack, BaseStays, AfterIsImage, BaseIsImage}
+use Rattle.flat_image.specs.HistoryLaws.{freezes, has_freeze, since_freeze, TopIsSinceFreeze, UsedIsSum, FreezeTakesTop, FrozenStays, SealAddsFile, KeptIsPlace, KeptReaches, SealsLayer, BaseStays, AfterIsImage, BaseIsImage}
 use Rattle.flat_image.proofs.Painting.{FitsIn, paint-holes, paint-filled, paint-zeros, paint-put_at, length-paint, length-put_at, length-painted, length-flat, length-sectors_in, whole-sectors_in, AreSectors-flat}
 use Rattle.flat_image.proofs.LayerLaws.{sheet_in-IsLayer, IsSheet-IsLayer}
+use Rattle.flat_image.proofs.SealedSheets.{seals-layer, few-step}
 
 -- a history in two parts, and one entry longer
 pub now-append : (b : Base) (h more : History) → now b (h ++ more) ≡ now (now b h) more
@@ -395,7 +396,7 @@ sheets_sealed lowers done file sheet top back =
     ∙ ap (λ s. map sheet_in (lowers ++ done) ++ (s ∷ top ∷ [])) back))
 
 -- an act changes the image of what it makes
-pub image-step : (b : Base) (act : Act) → IsBase b → Allowed b act → ReadsBack b act → image_of (step b act) ≡ changed (image_of b) act
+pub image-step : (b : Base) (act : Act) → IsBase b → Allowed b act → SealsLayer b → image_of (step b act) ≡ changed (image_of b) act
 unfolding ground
 image-step b (Read at count) base may back = refl
 image-step b (Write at bytes) base may back =
@@ -443,7 +444,7 @@ IsSheet-put_at n at new sheet is cells fits = record {
       (All-append IsCell new (drop (at + length new) sheet) cells (All-drop IsCell (at + length new) sheet is.cells));
 }
 
-pub base-step : (b : Base) (act : Act) → IsBase b → Allowed b act → ReadsBack b act → IsBase (step b act)
+pub base-step : (b : Base) (act : Act) → IsBase b → Allowed b act → SealsLayer b → IsBase (step b act)
 base-step b (Read at count) base may back = base
 base-step b (Write at bytes) base may back = record {
   frozen_is = base.frozen_is;
@@ -480,15 +481,17 @@ base-step b (Seal uuid) base may back = sealed (pending-frozen b.frozen uuid may
 base-step b (Fault asked) base may back = base
 
 pub base-stays : (b : Base) (h : History) → BaseStays b h
-base-stays b [] base p back = base
-base-stays b (e ∷ h) base p back = base-stays (step b e.act) h (base-step b e.act base p.1 back.0) p.2 back.1
+base-stays b [] base few p = (base, few)
+base-stays b (e ∷ h) base few p =
+    base-stays (step b e.act) h (base-step b e.act base p.1 (seals-layer b base few)) (few-step b e.act few p.0) p.2
 
 -- the image after a history is the image of what the history made
 pub after-is_image : (b : Base) (h : History) → AfterIsImage b h
-after-is_image b [] base p back = refl
-after-is_image b (e ∷ h) base p back =
-    after-is_image (step b e.act) h (base-step b e.act base p.1 back.0) p.2 back.1
-    ∙ ap (λ image. fold (λ i (x : Entry Act). changed i x.act) image h) (image-step b e.act base p.1 back.0)
+after-is_image b [] base few p = refl
+after-is_image b (e ∷ h) base few p =
+    let back : SealsLayer b = seals-layer b base few in
+    after-is_image (step b e.act) h (base-step b e.act base p.1 back) (few-step b e.act few p.0) p.2
+    ∙ ap (λ image. fold (λ i (x : Entry Act). changed i x.act) image h) (image-step b e.act base p.1 back)
 
 -- what a base reads as is an image
 pub base-is_image : (b : Base) → BaseIsImage b

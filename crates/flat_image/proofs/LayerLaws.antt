@@ -55,7 +55,7 @@ unfolding uuid_in
 uuid_in-layer file head sheet is = ap (λ r. r.uuid) (raw_of-block (take 4096 file) head is.layer.framed.front)
 
 -- the cells of a range
-length-range : (at count : ℕ) → length (range_with_len at count) ≡ count
+pub length-range : (at count : ℕ) → length (range_with_len at count) ≡ count
 length-range at zero = refl
 length-range at (suc count) = ap suc (length-range (at + 1) count)
 

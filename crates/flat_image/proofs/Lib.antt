@@ -1,3 +1,6 @@
+pub mod CanonicalBytes
+pub mod CanonicalCells
+pub mod CanonicalRows
 pub mod CellLaws
 pub mod Entries
 pub mod ExampleFacts
@@ -9,4 +12,8 @@ pub mod PlainExits
 pub mod PlainLaws
 pub mod PortLaws
 pub mod Runs
+pub mod SealedSheets
 pub mod SpelledRows
+pub mod StretchCounts
+pub mod StretchLaws
+pub mod StretchUnique

@@ -1,9 +1,10 @@
 -- What an image starts from: layers, perhaps a frozen sheet, a top, and what its top has used.
-use Rattle.std.specs.Prelude.{◌≡◌, ◌≢◌, ℕ, List, [], ◌∷◌, ◌++◌, length, All, Option, Some, None, IfSome, map, replicate, option_map}
+use Rattle.std.specs.Prelude.{◌≡◌, ◌≢◌, ℕ, ◌*◌, ◌^◌, ◌≤◌, List, [], ◌∷◌, ◌++◌, length, All, Option, Some, None, IfSome, map, replicate, option_map}
 use Rattle.lsmt_header.specs.Blocks.{nil}
 use Rattle.flat_image.specs.declared.base.Base.{Base}
 use Rattle.flat_image.specs.Sheets.{Cell, Hole, IsSheet, flat}
 use Rattle.flat_image.specs.Frozen.{Frozen}
+use Rattle.flat_image.specs.CanonicalFiles.{stretches}
 use Rattle.flat_image.specs.LayerReading.{sheet_in, uuid_in, IsLayer}
 
 -- a sheet that says nothing
@@ -53,3 +54,8 @@ pub record IsBase (base : Base) : Type 0 where
   pub top_is : IsSheet base.sectors base.top
   pub frozen_is : IfSome base.frozen (IsFrozen base.sectors)
   pub layers : All (IsLayerFile base.sectors) (base.lowers ++ base.done)
+
+-- the top has no more than two stretches for each row that it has used, and the frozen sheet no more than a full top
+pub record HasFewStretches (base : Base) : Type 0 where
+  pub top : length (stretches 0 base.top) ≤ 2 * base.rows
+  pub frozen : IfSome base.frozen (λ f. length (stretches 0 f.sheet) ≤ 2 ^ 23)

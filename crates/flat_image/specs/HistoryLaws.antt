@@ -1,5 +1,5 @@
 -- What the definitions along a history come to, in other words.
-use Rattle.std.specs.Prelude.{◌≡◌, ℕ, suc, ◌+◌, ◌≤◌, ◌⊎◌, ◌↔◌, Bool, true, false, if◌then◌else◌, List, [], ◌∷◌, ◌++◌, length, drop, fold, sum_by, All, Some, None, ⊤}
+use Rattle.std.specs.Prelude.{◌≡◌, ℕ, suc, ◌+◌, ◌≤◌, ◌⊎◌, ◌↔◌, Bool, true, false, if◌then◌else◌, List, [], ◌∷◌, ◌++◌, length, drop, fold, sum_by, All, Some, None}
 use Rattle.std.specs.List.{list_any}
 use Rattle.lsmt_header.specs.declared.head.Head.{Head}
 use Rattle.flat_image.specs.declared.act.Act.{Act}
@@ -11,9 +11,9 @@ use Rattle.flat_image.specs.Sheets.{Cell, IsSheet, IsImage}
 use Rattle.flat_image.specs.Frozen.{Frozen}
 use Rattle.flat_image.specs.CanonicalFiles.{file_of}
 use Rattle.flat_image.specs.LayerReading.{sheet_in, uuid_in, IsLayer}
-use Rattle.flat_image.specs.Base.{holes, top_uuid, image_of, IsBase}
+use Rattle.flat_image.specs.Base.{holes, top_uuid, image_of, IsBase, HasFewStretches}
 use Rattle.flat_image.specs.Entries.{entry, StartsWith}
-use Rattle.flat_image.specs.History.{History, step, now, after, written, rows_taken, sectors_taken, committed, frozen, pending, sheet_at, used_rows, used_sectors, keeps, kept, Proper}
+use Rattle.flat_image.specs.History.{History, now, after, written, rows_taken, sectors_taken, committed, frozen, pending, sheet_at, used_rows, used_sectors, keeps, kept, Proper}
 use Rattle.flat_image.specs.Left.{Kept, Blamed, moves_layers, Left}
 
 abbrev pub freezes : Act → Bool
@@ -83,28 +83,22 @@ LeavesNow base history =
 abbrev pub KeptReaches : History → History → Type 0
 KeptReaches history front = Kept history front ↔ (StartsWith history front × (kept history ≤ length front))
 
--- where a sheet is sealed, its file is that of a layer with that sheet
-abbrev pub ReadsBack : Base → Act → Type 0
-ReadsBack base (Read at count) = ⊤
-ReadsBack base (Write at bytes) = ⊤
-ReadsBack base (Zero at count) = ⊤
-ReadsBack base Flush = ⊤
-ReadsBack base (Freeze uuid) = ⊤
-ReadsBack base (Seal uuid) =
+-- what is frozen becomes a layer with its sheet: the file that a Seal adds is that of such a layer
+abbrev pub SealsLayer : Base → Type 0
+SealsLayer base =
     (f : Frozen) → base.frozen ≡ Some f → IsLayer base.sectors f.uuid f.sheet (file_of f.uuid (top_uuid (base.lowers ++ base.done)) f.sheet)
-ReadsBack base (Fault asked) = ⊤
 
-abbrev pub AllReadBack : Base → History → Type 0
-AllReadBack base [] = ⊤
-AllReadBack base (e ∷ es) = ReadsBack base e.act × AllReadBack (step base e.act) es
+-- so it is of a base with few stretches
+abbrev pub SheetsBecomeLayers : Base → Type 0
+SheetsBecomeLayers base = IsBase base → HasFewStretches base → SealsLayer base
 
--- from a base, a proper history leads to a base again
+-- from a base with few stretches, a proper history leads to such a base again
 abbrev pub BaseStays : Base → History → Type 0
-BaseStays base history = IsBase base → Proper base history → AllReadBack base history → IsBase (now base history)
+BaseStays base history = IsBase base → HasFewStretches base → Proper base history → IsBase (now base history) × HasFewStretches (now base history)
 
 -- the image after a history is the image of what the history made
 abbrev pub AfterIsImage : Base → History → Type 0
-AfterIsImage base history = IsBase base → Proper base history → AllReadBack base history → image_of (now base history) ≡ after base history
+AfterIsImage base history = IsBase base → HasFewStretches base → Proper base history → image_of (now base history) ≡ after base history
 
 -- what a base reads as is an image
 abbrev pub BaseIsImage : Base → Type 0

@@ -1,5 +1,6 @@
 pub mod Base
 pub mod CanonicalFiles
+pub mod CanonicalLaws
 pub mod Entries
 pub mod Examples
 pub mod Frozen
@@ -15,3 +16,4 @@ pub mod RowCells
 pub mod Sectors
 pub mod Sheets
 pub mod Stacks
+pub mod Stretches

@@ -2,8 +2,10 @@ ghost use Rattle.std.specs.Prelude.{ℕ, List};
 ghost use Rattle.lsmt_header.specs.declared.head.Head.{Head};
 ghost use Rattle.flat_image.specs.Sheets.{Cell};
 ghost use Rattle.flat_image.specs.LayerFiles.{LayerFile};
+ghost use Rattle.flat_image.specs.CanonicalLaws.{FileIsLayer, StretchesAreLongest, FewRows, AddsTwo};
+ghost use Rattle.flat_image.specs.Base.{fresh, HasFewStretches};
 ghost use Rattle.flat_image.specs.History.{History};
-ghost use Rattle.flat_image.specs.HistoryLaws.{TopIsSinceFreeze, UsedIsSum, FreezeTakesTop, FrozenStays, SealAddsFile, KeptIsPlace, KeptReaches, LeavesNow, BaseStays, AfterIsImage, BaseIsImage, ReadsLayer};
+ghost use Rattle.flat_image.specs.HistoryLaws.{TopIsSinceFreeze, UsedIsSum, FreezeTakesTop, FrozenStays, SealAddsFile, KeptIsPlace, KeptReaches, LeavesNow, SheetsBecomeLayers, BaseStays, AfterIsImage, BaseIsImage, ReadsLayer};
 
 use crate::base::Base;
 
@@ -17,8 +19,18 @@ pub fn history_laws()
     ensures kept { (history : History) → KeptIsPlace history }
     ensures left { (history front : History) → KeptReaches history front }
     ensures crash { (base : Base) (history : History) → LeavesNow base history }
+    ensures layer { (base : Base) → SheetsBecomeLayers base }
     ensures base { (base : Base) (history : History) → BaseStays base history }
     ensures image { (base : Base) (history : History) → AfterIsImage base history }
+    ensures fresh { (n : ℕ) (lowers : List (List ℕ)) → HasFewStretches (fresh n lowers) }
     ensures whole { (base : Base) → BaseIsImage base }
     ensures read { (file : List ℕ) (head : Head) (sheet : List Cell) → LayerFile file head sheet → ReadsLayer file head sheet }
+{}
+
+/// What the canonical file of a sheet is.
+pub fn canonical_laws()
+    ensures file { (n : ℕ) (uuid parent : List ℕ) (sheet : List Cell) → FileIsLayer n uuid parent sheet }
+    ensures runs { (sheet : List Cell) → StretchesAreLongest sheet }
+    ensures rows { (sheet : List Cell) → FewRows sheet }
+    ensures change { (sheet : List Cell) → AddsTwo sheet }
 {}

@@ -14,7 +14,7 @@ mod stands;
 pub use act::{Act, Asked};
 pub use base::Base;
 pub use image_port::ImagePort;
-pub use laws::history_laws;
+pub use laws::{canonical_laws, history_laws};
 pub use limits::{HISTORY_ENTRIES, TOP_ROWS, TOP_SECTORS};
 pub use plain_port::PlainPort;
 pub use port_fault::PortFault;

@@ -1,0 +1,88 @@
+-- Along a proper history each sheet that is sealed has few stretches, and so its file is that of a layer with the sheet.
+use Rattle.std.proofs.Common.{◌≡◌, ℕ, ◌*◌, ◌^◌, ◌≤◌, false, true, List, [], ◌∷◌, ◌++◌, length, map, refl, sym, ap, ◌∙◌, subst, arith}
+use Rattle.std.proofs.Math.ListN.{replicate}
+use Rattle.std.proofs.lemmas.List.{length-map, length-replicate}
+use Rattle.std.proofs.lemmas.List.Elements.{All-nil, All-cons, All-head, All-tail, All-replicate}
+use Rattle.std.specs.Prelude.{All, IfSome}
+use Rattle.sector_extent.specs.Rows.{rows_for}
+use Rattle.flat_image.specs.declared.act.Act.{Act}
+use Rattle.flat_image.specs.declared.act.Act.TheVariants.{Read, Write, Zero, Flush, Freeze, Seal, Fault}
+use Rattle.flat_image.specs.declared.base.Base.{Base}
+use Rattle.flat_image.specs.Sheets.{Cell, Filled, IsSector}
+use Rattle.flat_image.specs.Sheets as sheets
+use Rattle.flat_image.specs.Sectors.{sector_count, sectors_in}
+use Rattle.flat_image.specs.Frozen.{Frozen}
+use Rattle.flat_image.specs.CanonicalFiles.{stretches, canonical_head}
+use Rattle.flat_image.specs.LayerReading.{IsLayer}
+use Rattle.flat_image.specs.Stretches.{IsOf}
+use Rattle.flat_image.specs.Base.{fresh, top_uuid, IsLayerFile, IsFrozen, HasFewStretches}
+use Rattle.flat_image.specs.History.{step, HasRoom}
+use Rattle.flat_image.specs.HistoryLaws.{SheetsBecomeLayers}
+use Rattle.flat_image.proofs.Painting.{length-sectors_in}
+use Rattle.flat_image.proofs.LayerLaws.{uuid_in-IsLayer}
+use Rattle.flat_image.proofs.StretchCounts.{few-rows, stretches-change, stretches-holes}
+use Rattle.flat_image.proofs.CanonicalBytes.{file-is_layer}
+
+-- the uuid of the uppermost layer has its length
+pub length-top_uuid : (n : ℕ) (files : List (List ℕ)) → All (IsLayerFile n) files → length (top_uuid files) ≡ 16
+length-top_uuid n [] are = length-replicate {A = ℕ} 16 0
+length-top_uuid n (file ∷ []) are =
+    let here : IsLayerFile n file = All-head (IsLayerFile n) file [] are in
+    let is : IsLayer n here.0 here.1 file = here.2 in
+    ap (length {A = ℕ}) (uuid_in-IsLayer n here.0 here.1 file is ∙ sym is.named) ∙ is.layer.layer.framed.front.fits.uuid
+length-top_uuid n (file ∷ next ∷ files) are = length-top_uuid n (next ∷ files) (All-tail (IsLayerFile n) file (next ∷ files) are)
+
+-- the file of what is frozen is that of a layer with the frozen sheet
+pub seals-layer : (b : Base) → SheetsBecomeLayers b
+seals-layer b base few f is =
+    let parent : List ℕ = top_uuid (b.lowers ++ b.done) in
+    let frozen : IsFrozen b.sectors f = subst (λ o. IfSome o (IsFrozen b.sectors)) is base.frozen_is in
+    let short : length (stretches 0 f.sheet) ≤ 2 ^ 23 = subst (λ o. IfSome o (λ (g : Frozen). length (stretches 0 g.sheet) ≤ 2 ^ 23)) is few.frozen in
+    record {
+      head = canonical_head f.uuid parent f.sheet;
+      layer = file-is_layer b.sectors f.uuid parent f.sheet (record {
+        long = frozen.long;
+        named = frozen.named;
+        parent_long = length-top_uuid b.sectors (b.lowers ++ b.done) base.layers;
+        sheet_is = frozen.sheet_is;
+        few = few-rows f.sheet (omega (arith, frozen.sheet_is.count, frozen.sheet_is.few)) short;
+      });
+      size = frozen.sheet_is.count;
+      named = refl;
+    }
+
+all-filled : (sectors : List (List ℕ)) → All (IsOf false) (map Filled sectors)
+all-filled [] = All-nil (IsOf false)
+all-filled (sector ∷ sectors) = All-cons (IsOf false) (Filled sector) (map Filled sectors) refl (all-filled sectors)
+
+-- each act keeps the stretches few
+pub few-step : (b : Base) (act : Act) → HasFewStretches b → HasRoom b.rows b.filled → HasFewStretches (step b act)
+few-step b (Read at count) few room = few
+few-step b (Write at bytes) few room = record {
+  top =
+      let new : List Cell = map Filled (sectors_in bytes) in
+      let size : length new ≡ sector_count bytes = length-map (sectors_in bytes) Filled ∙ length-sectors_in bytes in
+      let rows : rows_for (length new) ≡ rows_for (sector_count bytes) = ap rows_for size in
+      let more = stretches-change at false new b.top (all-filled (sectors_in bytes)) in
+      omega (arith, more, rows, few.top);
+  frozen = few.frozen;
+}
+few-step b (Zero at count) few room = record {
+  top =
+      let new : List Cell = replicate count sheets.Zero in
+      let rows : rows_for (length new) ≡ rows_for count = ap rows_for (length-replicate count sheets.Zero) in
+      let more = stretches-change at true new b.top (All-replicate (IsOf true) count sheets.Zero refl) in
+      omega (arith, more, rows, few.top);
+  frozen = few.frozen;
+}
+few-step b Flush few room = few
+few-step b (Freeze uuid) few room = record {
+  top = subst (λ list. length list ≤ 2 * 0) (sym (stretches-holes 0 b.sectors)) (omega arith);
+  frozen = omega (arith, few.top, room.rows_fit);
+}
+few-step b (Seal uuid) few room = record { top = few.top; frozen = tt }
+few-step b (Fault asked) few room = few
+
+-- an image in which nothing was written has none
+pub fresh-few : (n : ℕ) (lowers : List (List ℕ)) → HasFewStretches (fresh n lowers)
+fresh-few n lowers = record { top = subst (λ list. length list ≤ 2 * 0) (sym (stretches-holes 0 n)) (omega arith); frozen = tt }

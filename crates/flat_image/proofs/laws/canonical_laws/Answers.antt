@@ -1,0 +1,12 @@
+use Rattle.flat_image.proofs.StretchUnique.{stretches-longest}
+use Rattle.flat_image.proofs.CanonicalBytes.{file-is_layer}
+use Rattle.flat_image.proofs.StretchCounts.{few-rows, adds-two}
+use Rattle.flat_image.proofs.laws.canonical_laws.Goals as goal
+
+pub returns : goal.returns
+returns c = record {
+  file = file-is_layer;
+  runs = stretches-longest;
+  rows = few-rows;
+  change = adds-two;
+}
