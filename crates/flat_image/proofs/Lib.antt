@@ -11,6 +11,7 @@ pub mod Painting
 pub mod PlainExits
 pub mod PlainLaws
 pub mod PortLaws
+pub mod RowStretches
 pub mod Runs
 pub mod SealedSheets
 pub mod SpelledRows

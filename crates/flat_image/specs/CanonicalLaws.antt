@@ -1,9 +1,11 @@
 -- Which sheets have a canonical file, and what a change adds to the stretches of a sheet.
-use Rattle.std.specs.Prelude.{◌≡◌, ◌≢◌, ℕ, ◌+◌, ◌^◌, ◌≤◌, Bool, List, length, All}
+use Rattle.std.specs.Prelude.{◌≡◌, ◌≢◌, ℕ, ◌+◌, ◌*◌, ◌^◌, ◌≤◌, Bool, List, length, All}
+use Rattle.seg_mapping.specs.declared.Row.{Row}
 use Rattle.lsmt_header.specs.Blocks.{nil}
 use Rattle.flat_image.specs.Sheets.{Cell, IsSheet}
 use Rattle.flat_image.specs.Sectors.{put_at}
 use Rattle.flat_image.specs.CanonicalFiles.{Stretch, stretches, canonical_rows, canonical_head, file_of}
+use Rattle.flat_image.specs.RowCells.{sheet_of}
 use Rattle.flat_image.specs.LayerFiles.{LayerFile}
 use Rattle.flat_image.specs.Stretches.{IsOf, AreStretches, AreLongest}
 
@@ -34,3 +36,7 @@ abbrev pub AddsTwo : List Cell → Type 0
 AddsTwo sheet =
     (at : ℕ) (zeroed : Bool) (new : List Cell) → All (IsOf zeroed) new
     → length (stretches 0 (put_at at new sheet)) ≤ length (stretches 0 sheet) + 2
+
+-- the sheet of rows, of whatever file and in whatever order, has no more than two stretches for each row
+abbrev pub RowsMakeFew : List ℕ → ℕ → List Row → Type 0
+RowsMakeFew file n rows = length (stretches 0 (sheet_of file n rows)) ≤ 2 * length rows

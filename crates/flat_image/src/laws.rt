@@ -1,8 +1,9 @@
 ghost use Rattle.std.specs.Prelude.{ℕ, List};
+ghost use Rattle.seg_mapping.specs.declared.Row.{Row};
 ghost use Rattle.lsmt_header.specs.declared.head.Head.{Head};
 ghost use Rattle.flat_image.specs.Sheets.{Cell};
 ghost use Rattle.flat_image.specs.LayerFiles.{LayerFile};
-ghost use Rattle.flat_image.specs.CanonicalLaws.{FileIsLayer, StretchesAreLongest, FewRows, AddsTwo};
+ghost use Rattle.flat_image.specs.CanonicalLaws.{FileIsLayer, StretchesAreLongest, FewRows, AddsTwo, RowsMakeFew};
 ghost use Rattle.flat_image.specs.Base.{fresh, HasFewStretches};
 ghost use Rattle.flat_image.specs.History.{History};
 ghost use Rattle.flat_image.specs.HistoryLaws.{TopIsSinceFreeze, UsedIsSum, FreezeTakesTop, FrozenStays, SealAddsFile, KeptIsPlace, KeptReaches, LeavesNow, SheetsBecomeLayers, BaseStays, AfterIsImage, BaseIsImage, ReadsLayer};
@@ -33,4 +34,5 @@ pub fn canonical_laws()
     ensures runs { (sheet : List Cell) → StretchesAreLongest sheet }
     ensures rows { (sheet : List Cell) → FewRows sheet }
     ensures change { (sheet : List Cell) → AddsTwo sheet }
+    ensures painted { (file : List ℕ) (n : ℕ) (rows : List Row) → RowsMakeFew file n rows }
 {}

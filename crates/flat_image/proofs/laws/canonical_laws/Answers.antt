@@ -1,6 +1,7 @@
 use Rattle.flat_image.proofs.StretchUnique.{stretches-longest}
 use Rattle.flat_image.proofs.CanonicalBytes.{file-is_layer}
 use Rattle.flat_image.proofs.StretchCounts.{few-rows, adds-two}
+use Rattle.flat_image.proofs.RowStretches.{rows-make_few}
 use Rattle.flat_image.proofs.laws.canonical_laws.Goals as goal
 
 pub returns : goal.returns
@@ -9,4 +10,5 @@ returns c = record {
   runs = stretches-longest;
   rows = few-rows;
   change = adds-two;
+  painted = rows-make_few;
 }
