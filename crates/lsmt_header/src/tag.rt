@@ -1,4 +1,4 @@
-ghost use Rattle.std.specs.Prelude.{◌≡◌, ◌↔◌, ℕ, List, IsNone, IfSome, IfNone};
+ghost use Rattle.std.specs.Prelude.{◌≡◌, ◌↔◌, ℕ, List, [], IsNone, IfSome, IfNone};
 ghost use Rattle.lsmt_header.specs.Tags.{IsTagText, padded};
 
 use crate::zeros::{all_zero, text_len};
@@ -31,6 +31,16 @@ impl Model for Tag {
 }
 
 impl Tag {
+    /// The tag without a text.
+    pub fn empty() -> Tag
+        ensures { result ≡ [] }
+    {
+        Tag {
+            field: [0; 256],
+            len: 0,
+        }
+    }
+
     /// The tag with this text. None where it is over 256 bytes, has a zero byte or is not UTF-8.
     pub fn new(text: &[u8]) -> Option<Tag>
         ensures some { IfSome result (λ tag. (tag ≡ text.now) × IsTagText text.now) }

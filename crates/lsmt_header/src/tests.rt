@@ -44,6 +44,7 @@ fn block_of_a_head(rt: HostRuntime) -> Result<(), Fail> {
 fn tags(rt: HostRuntime) -> Result<(), Fail> {
     let tag = Tag::new(b"base").ok_or("a short text")?;
     assert_eq!(rt; tag.as_bytes(), b"base".as_slice());
+    assert!(rt; Tag::new(b"") == Some(Tag::empty()));
     assert!(rt; Tag::new(&[0x61; 256]).is_some());
     assert!(rt; Tag::new(&[0x61; 257]).is_none());
     assert!(rt; Tag::new(b"a\0").is_none());

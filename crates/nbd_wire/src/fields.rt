@@ -40,8 +40,8 @@ pub(crate) fn u64_at(bytes: &[u8], at: usize) -> u64
     u64::from_be_bytes(field(bytes, at))
 }
 
-// Two fields, one after the other.
-pub(crate) fn join<const A: usize, const B: usize, const C: usize>(
+/// Two pieces of a message, one after the other.
+pub fn join<const A: usize, const B: usize, const C: usize>(
     front: [u8; A],
     back: [u8; B],
 ) -> [u8; C]

@@ -8,6 +8,7 @@ mod info;
 mod options;
 mod request;
 
+pub use fields::join;
 pub use hello::{Hello, decode_hello, hello_bytes};
 pub use info::{decode_info, info_block_size, info_export};
 pub use options::{OptionHead, decode_option, name_reply, option_reply};
