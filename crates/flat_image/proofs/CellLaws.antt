@@ -67,7 +67,7 @@ cell_of-before file [] ys p hole = hole
 cell_of-before file (row ∷ xs) ys p hole =
     ap (λ (cell : Cell). cond (covers row p) (cell_by file row p) cell) (cell_of-before file xs ys p hole)
 
-whole_by : (file : List ℕ) (row : Row) (p index_at : ℕ) → (row.zeroed ≡ false → row.place + row.count ≤ index_at / 512) → index_at ≤ length file → p < row.offset + row.count → row.offset ≤ p
+pub whole_by : (file : List ℕ) (row : Row) (p index_at : ℕ) → (row.zeroed ≡ false → row.place + row.count ≤ index_at / 512) → index_at ≤ length file → p < row.offset + row.count → row.offset ≤ p
     → IsCell (cell_by file row p)
 whole_by file row p index_at to within high low =
     elim row.zeroed as (λ z. (z ≡ false → row.place + row.count ≤ index_at / 512) → IsCell (cond z Zero (Filled (sector_at file (row.place + (p - row.offset)))))) [

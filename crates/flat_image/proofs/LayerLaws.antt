@@ -59,7 +59,7 @@ pub length-range : (at count : ℕ) → length (range_with_len at count) ≡ cou
 length-range at zero = refl
 length-range at (suc count) = ap suc (length-range (at + 1) count)
 
-all_cells : (file : List ℕ) (rows : List Row) → ((p : ℕ) → IsCell (cell_of file rows p)) → (at count : ℕ) → All IsCell (cells_from file rows at count)
+pub all_cells : (file : List ℕ) (rows : List Row) → ((p : ℕ) → IsCell (cell_of file rows p)) → (at count : ℕ) → All IsCell (cells_from file rows at count)
 all_cells file rows whole at zero = All-nil IsCell
 all_cells file rows whole at (suc count) =
     All-cons IsCell (cell_of file rows at) (cells_from file rows (at + 1) count) (whole at) (all_cells file rows whole (at + 1) count)

@@ -2,6 +2,7 @@ pub mod CanonicalBytes
 pub mod CanonicalCells
 pub mod CanonicalRows
 pub mod CellLaws
+pub mod CommitLaws
 pub mod Entries
 pub mod ExampleFacts
 pub mod HistoryLaws

@@ -1,6 +1,7 @@
 pub mod Base
 pub mod CanonicalFiles
 pub mod CanonicalLaws
+pub mod CommitLaws
 pub mod Entries
 pub mod Examples
 pub mod Frozen

@@ -6,6 +6,7 @@ ghost use Rattle.flat_image.specs.LayerFiles.{LayerFile};
 ghost use Rattle.flat_image.specs.CanonicalLaws.{FileIsLayer, StretchesAreLongest, FewRows, AddsTwo, RowsMakeFew};
 ghost use Rattle.flat_image.specs.Base.{fresh, HasFewStretches};
 ghost use Rattle.flat_image.specs.History.{History};
+ghost use Rattle.flat_image.specs.CommitLaws.{CommitIsImage, OpenCommitIsImage};
 ghost use Rattle.flat_image.specs.HistoryLaws.{TopIsSinceFreeze, UsedIsSum, FreezeTakesTop, FrozenStays, SealAddsFile, KeptIsPlace, KeptReaches, LeavesNow, SheetsBecomeLayers, BaseStays, AfterIsImage, BaseIsImage, ReadsLayer};
 
 use crate::base::Base;
@@ -23,6 +24,8 @@ pub fn history_laws()
     ensures layer { (base : Base) → SheetsBecomeLayers base }
     ensures base { (base : Base) (history : History) → BaseStays base history }
     ensures image { (base : Base) (history : History) → AfterIsImage base history }
+    ensures commit { (base : Base) (front : History) → CommitIsImage base front }
+    ensures open_commit { (base : Base) → OpenCommitIsImage base }
     ensures fresh { (n : ℕ) (lowers : List (List ℕ)) → HasFewStretches (fresh n lowers) }
     ensures whole { (base : Base) → BaseIsImage base }
     ensures read { (file : List ℕ) (head : Head) (sheet : List Cell) → LayerFile file head sheet → ReadsLayer file head sheet }

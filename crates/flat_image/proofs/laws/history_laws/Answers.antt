@@ -1,3 +1,4 @@
+use Rattle.flat_image.proofs.CommitLaws.{open-commit, commit-image}
 use Rattle.flat_image.proofs.HistoryLaws.{top_since-freeze, used-sum, freeze-takes_top, frozen-stays, seal-adds_file, kept-is_place, kept-reaches, base-stays, after-is_image, base-is_image}
 use Rattle.flat_image.proofs.LayerLaws.{reads-layer}
 use Rattle.flat_image.proofs.LeftLaws.{leaves-now}
@@ -17,6 +18,8 @@ returns c = record {
   layer = seals-layer;
   base = base-stays;
   image = after-is_image;
+  commit = commit-image;
+  open_commit = open-commit;
   fresh = fresh-few;
   whole = base-is_image;
   read = reads-layer;
