@@ -6,6 +6,7 @@ pub mod CommitLaws
 pub mod Entries
 pub mod ExampleFacts
 pub mod HistoryLaws
+pub mod JoinedStretches
 pub mod LayerLaws
 pub mod LeftLaws
 pub mod Painting

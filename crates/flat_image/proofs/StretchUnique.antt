@@ -21,7 +21,7 @@ ends-same first other (next ∷ rest) place same ends = λ there kind. ends (the
 ends-next : (first next : Stretch) (rest : List Stretch) → goes_on first next ≡ false → EndsBefore first (next ∷ rest)
 ends-next first next rest is = λ place same. absurd (let e : true ≡ false = sym (goes_on-is first next place same) ∙ is in cc)
 
-longest-with : (first : Stretch) (list : List Stretch) → AreLongest list → AreLongest (with_stretch first list)
+pub longest-with : (first : Stretch) (list : List Stretch) → AreLongest list → AreLongest (with_stretch first list)
 longest-with first [] longest = (tt, tt)
 longest-with first (next ∷ rest) longest = by_cases (goes_on first next) refl
   where

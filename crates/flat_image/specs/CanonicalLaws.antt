@@ -4,7 +4,7 @@ use Rattle.seg_mapping.specs.declared.Row.{Row}
 use Rattle.lsmt_header.specs.Blocks.{nil}
 use Rattle.flat_image.specs.Sheets.{Cell, IsSheet}
 use Rattle.flat_image.specs.Sectors.{put_at}
-use Rattle.flat_image.specs.CanonicalFiles.{Stretch, stretches, canonical_rows, canonical_head, file_of}
+use Rattle.flat_image.specs.CanonicalFiles.{Stretch, joined, stretches, canonical_rows, canonical_head, file_of}
 use Rattle.flat_image.specs.RowCells.{sheet_of}
 use Rattle.flat_image.specs.LayerFiles.{LayerFile}
 use Rattle.flat_image.specs.Stretches.{IsOf, AreStretches, AreLongest}
@@ -26,6 +26,10 @@ pub record StretchesAreLongest (sheet : List Cell) : Type 0 where
   pub are : AreStretches 0 sheet (stretches 0 sheet)
   pub longest : AreLongest (stretches 0 sheet)
   pub only : (list : List Stretch) → AreStretches 0 sheet list → AreLongest list → list ≡ stretches 0 sheet
+
+-- whatever stretches have the cells of a sheet, joined they are its longest ones
+abbrev pub JoinedAreLongest : List Cell → Type 0
+JoinedAreLongest sheet = (list : List Stretch) → AreStretches 0 sheet list → joined list ≡ stretches 0 sheet
 
 -- a sheet of few stretches has few rows
 abbrev pub FewRows : List Cell → Type 0

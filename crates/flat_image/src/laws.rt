@@ -3,7 +3,7 @@ ghost use Rattle.seg_mapping.specs.declared.Row.{Row};
 ghost use Rattle.lsmt_header.specs.declared.head.Head.{Head};
 ghost use Rattle.flat_image.specs.Sheets.{Cell};
 ghost use Rattle.flat_image.specs.LayerFiles.{LayerFile};
-ghost use Rattle.flat_image.specs.CanonicalLaws.{FileIsLayer, StretchesAreLongest, FewRows, AddsTwo, RowsMakeFew};
+ghost use Rattle.flat_image.specs.CanonicalLaws.{FileIsLayer, StretchesAreLongest, JoinedAreLongest, FewRows, AddsTwo, RowsMakeFew};
 ghost use Rattle.flat_image.specs.Base.{fresh, HasFewStretches};
 ghost use Rattle.flat_image.specs.History.{History};
 ghost use Rattle.flat_image.specs.CommitLaws.{CommitIsImage, OpenCommitIsImage};
@@ -35,6 +35,7 @@ pub fn history_laws()
 pub fn canonical_laws()
     ensures file { (n : ℕ) (uuid parent : List ℕ) (sheet : List Cell) → FileIsLayer n uuid parent sheet }
     ensures runs { (sheet : List Cell) → StretchesAreLongest sheet }
+    ensures joined { (sheet : List Cell) → JoinedAreLongest sheet }
     ensures rows { (sheet : List Cell) → FewRows sheet }
     ensures change { (sheet : List Cell) → AddsTwo sheet }
     ensures painted { (file : List ℕ) (n : ℕ) (rows : List Row) → RowsMakeFew file n rows }

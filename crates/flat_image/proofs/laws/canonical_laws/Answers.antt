@@ -1,3 +1,4 @@
+use Rattle.flat_image.proofs.JoinedStretches.{joined-are_longest}
 use Rattle.flat_image.proofs.StretchUnique.{stretches-longest}
 use Rattle.flat_image.proofs.CanonicalBytes.{file-is_layer}
 use Rattle.flat_image.proofs.StretchCounts.{few-rows, adds-two}
@@ -8,6 +9,7 @@ pub returns : goal.returns
 returns c = record {
   file = file-is_layer;
   runs = stretches-longest;
+  joined = joined-are_longest;
   rows = few-rows;
   change = adds-two;
   painted = rows-make_few;
