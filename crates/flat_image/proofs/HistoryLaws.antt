@@ -20,10 +20,10 @@ use Rattle.flat_image.specs.Base.{holes, top_uuid, pending_of, sheet_list, sheet
 use Rattle.flat_image.specs.Entries.{entry, StartsWith}
 use Rattle.flat_image.specs.History.{History, step, now, after, changed, written, rows_taken, sectors_taken, sealed_over, committed, frozen, used_rows, used_sectors, keeps, kept_from, kept, Proper, Allowed, HasRoom, is_fault, fault_count}
 use Rattle.flat_image.specs.Left.{Kept, moves_layers}
-use Rattle.flat_image.specs.HistoryLaws.{freezes, has_freeze, since_freeze, TopIsSinceFreeze, UsedIsSum, FreezeTakesTop, FrozenStays, SealAddsFile, KeptIsPlace, KeptReaches, SealsLayer, BaseStays, AfterIsImage, BaseIsImage}
+use Rattle.flat_image.specs.HistoryLaws.{freezes, has_freeze, since_freeze, TopIsSinceFreeze, UsedIsSum, FreezeTakesTop, FrozenStays, SealAddsFile, KeptIsPlace, KeptReaches, BaseStays, AfterIsImage, BaseIsImage}
 use Rattle.flat_image.proofs.Painting.{FitsIn, paint-holes, paint-filled, paint-zeros, paint-put_at, length-paint, length-put_at, length-painted, length-flat, length-sectors_in, whole-sectors_in, AreSectors-flat}
 use Rattle.flat_image.proofs.LayerLaws.{sheet_in-IsLayer, IsSheet-IsLayer}
-use Rattle.flat_image.proofs.SealedSheets.{seals-layer, few-step}
+use Rattle.flat_image.proofs.SealedSheets.{SealsLayer, seals-layer, few-step}
 
 -- a history in two parts, and one entry longer
 pub now-append : (b : Base) (h more : History) → now b (h ++ more) ≡ now (now b h) more

@@ -3,7 +3,7 @@ use Rattle.std.proofs.Common.{◌≡◌, ℕ, ◌*◌, ◌^◌, ◌≤◌, false
 use Rattle.std.proofs.Math.ListN.{replicate}
 use Rattle.std.proofs.lemmas.List.{length-map, length-replicate}
 use Rattle.std.proofs.lemmas.List.Elements.{All-nil, All-cons, All-head, All-tail, All-replicate}
-use Rattle.std.specs.Prelude.{All, IfSome}
+use Rattle.std.specs.Prelude.{All, Some, IfSome}
 use Rattle.sector_extent.specs.Rows.{rows_for}
 use Rattle.flat_image.specs.declared.act.Act.{Act}
 use Rattle.flat_image.specs.declared.act.Act.TheVariants.{Read, Write, Zero, Flush, Freeze, Seal, Fault}
@@ -12,10 +12,10 @@ use Rattle.flat_image.specs.Sheets.{Cell, Filled, IsSector}
 use Rattle.flat_image.specs.Sheets as sheets
 use Rattle.flat_image.specs.Sectors.{sector_count, sectors_in}
 use Rattle.flat_image.specs.Frozen.{Frozen}
-use Rattle.flat_image.specs.CanonicalFiles.{stretches, canonical_head}
+use Rattle.flat_image.specs.CanonicalFiles.{stretches, canonical_head, file_of}
 use Rattle.flat_image.specs.LayerReading.{IsLayer}
 use Rattle.flat_image.specs.Stretches.{IsOf}
-use Rattle.flat_image.specs.Base.{fresh, top_uuid, IsLayerFile, IsFrozen, HasFewStretches}
+use Rattle.flat_image.specs.Base.{fresh, top_uuid, IsLayerFile, IsFrozen, IsBase, HasFewStretches}
 use Rattle.flat_image.specs.History.{step, HasRoom}
 use Rattle.flat_image.specs.HistoryLaws.{SheetsBecomeLayers}
 use Rattle.flat_image.proofs.Painting.{length-sectors_in}
@@ -33,20 +33,28 @@ length-top_uuid n (file ∷ []) are =
 length-top_uuid n (file ∷ next ∷ files) are = length-top_uuid n (next ∷ files) (All-tail (IsLayerFile n) file (next ∷ files) are)
 
 -- the file of what is frozen is that of a layer with the frozen sheet
-pub seals-layer : (b : Base) → SheetsBecomeLayers b
-seals-layer b base few f is =
+pub becomes-layer : (b : Base) → SheetsBecomeLayers b
+becomes-layer b f is base few =
     let parent : List ℕ = top_uuid (b.lowers ++ b.done) in
     let frozen : IsFrozen b.sectors f = subst (λ o. IfSome o (IsFrozen b.sectors)) is base.frozen_is in
     let short : length (stretches 0 f.sheet) ≤ 2 ^ 23 = subst (λ o. IfSome o (λ (g : Frozen). length (stretches 0 g.sheet) ≤ 2 ^ 23)) is few.frozen in
+    file-is_layer b.sectors f.uuid parent f.sheet (record {
+      long = frozen.long;
+      named = frozen.named;
+      parent_long = length-top_uuid b.sectors (b.lowers ++ b.done) base.layers;
+      sheet_is = frozen.sheet_is;
+      few = few-rows f.sheet (omega (arith, frozen.sheet_is.count, frozen.sheet_is.few)) short;
+    })
+
+abbrev pub SealsLayer : Base → Type 0
+SealsLayer base = (f : Frozen) → base.frozen ≡ Some f → IsLayer base.sectors f.uuid f.sheet (file_of f.uuid (top_uuid (base.lowers ++ base.done)) f.sheet)
+
+pub seals-layer : (b : Base) → IsBase b → HasFewStretches b → SealsLayer b
+seals-layer b base few f is =
+    let frozen : IsFrozen b.sectors f = subst (λ o. IfSome o (IsFrozen b.sectors)) is base.frozen_is in
     record {
-      head = canonical_head f.uuid parent f.sheet;
-      layer = file-is_layer b.sectors f.uuid parent f.sheet (record {
-        long = frozen.long;
-        named = frozen.named;
-        parent_long = length-top_uuid b.sectors (b.lowers ++ b.done) base.layers;
-        sheet_is = frozen.sheet_is;
-        few = few-rows f.sheet (omega (arith, frozen.sheet_is.count, frozen.sheet_is.few)) short;
-      });
+      head = canonical_head f.uuid (top_uuid (b.lowers ++ b.done)) f.sheet;
+      layer = becomes-layer b f is base few;
       size = frozen.sheet_is.count;
       named = refl;
     }

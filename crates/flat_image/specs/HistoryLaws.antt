@@ -9,8 +9,9 @@ use Rattle.flat_image.specs.declared.base.Base.{Base}
 use Rattle.flat_image.specs.declared.stands.Entry.{Entry}
 use Rattle.flat_image.specs.Sheets.{Cell, IsSheet, IsImage}
 use Rattle.flat_image.specs.Frozen.{Frozen}
-use Rattle.flat_image.specs.CanonicalFiles.{file_of}
-use Rattle.flat_image.specs.LayerReading.{sheet_in, uuid_in, IsLayer}
+use Rattle.flat_image.specs.CanonicalFiles.{canonical_head, file_of}
+use Rattle.flat_image.specs.LayerFiles.{LayerFile}
+use Rattle.flat_image.specs.LayerReading.{sheet_in, uuid_in}
 use Rattle.flat_image.specs.Base.{holes, top_uuid, image_of, IsBase, HasFewStretches}
 use Rattle.flat_image.specs.Entries.{entry, StartsWith}
 use Rattle.flat_image.specs.History.{History, now, after, written, rows_taken, sectors_taken, committed, frozen, pending, sheet_at, used_rows, used_sectors, keeps, kept, Proper}
@@ -83,14 +84,11 @@ LeavesNow base history =
 abbrev pub KeptReaches : History → History → Type 0
 KeptReaches history front = Kept history front ↔ (StartsWith history front × (kept history ≤ length front))
 
--- what is frozen becomes a layer with its sheet: the file that a Seal adds is that of such a layer
-abbrev pub SealsLayer : Base → Type 0
-SealsLayer base =
-    (f : Frozen) → base.frozen ≡ Some f → IsLayer base.sectors f.uuid f.sheet (file_of f.uuid (top_uuid (base.lowers ++ base.done)) f.sheet)
-
--- so it is of a base with few stretches
+-- what is frozen becomes a layer with its sheet, over the uppermost file: the file that a Seal adds is that of such a layer
 abbrev pub SheetsBecomeLayers : Base → Type 0
-SheetsBecomeLayers base = IsBase base → HasFewStretches base → SealsLayer base
+SheetsBecomeLayers base =
+    (f : Frozen) → base.frozen ≡ Some f → IsBase base → HasFewStretches base
+    → LayerFile (file_of f.uuid (top_uuid (base.lowers ++ base.done)) f.sheet) (canonical_head f.uuid (top_uuid (base.lowers ++ base.done)) f.sheet) f.sheet
 
 -- from a base with few stretches, a proper history leads to such a base again
 abbrev pub BaseStays : Base → History → Type 0

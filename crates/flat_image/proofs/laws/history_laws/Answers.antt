@@ -2,7 +2,7 @@ use Rattle.flat_image.proofs.CommitLaws.{open-commit, commit-image}
 use Rattle.flat_image.proofs.HistoryLaws.{top_since-freeze, used-sum, freeze-takes_top, frozen-stays, seal-adds_file, kept-is_place, kept-reaches, base-stays, after-is_image, base-is_image}
 use Rattle.flat_image.proofs.LayerLaws.{reads-layer}
 use Rattle.flat_image.proofs.LeftLaws.{leaves-now}
-use Rattle.flat_image.proofs.SealedSheets.{fresh-few, seals-layer}
+use Rattle.flat_image.proofs.SealedSheets.{fresh-few, becomes-layer}
 use Rattle.flat_image.proofs.laws.history_laws.Goals as goal
 
 pub returns : goal.returns
@@ -15,7 +15,7 @@ returns c = record {
   kept = kept-is_place;
   left = kept-reaches;
   crash = leaves-now;
-  layer = seals-layer;
+  layer = becomes-layer;
   base = base-stays;
   image = after-is_image;
   commit = commit-image;
