@@ -1,0 +1,16 @@
+//! One index of the layers of an image: which of them has each sector uppermost, and where in its
+//! file.
+#![tactic(auto)]
+
+mod index;
+mod laws;
+mod numbered;
+mod piece;
+mod search;
+
+pub use index::{MergedIndex, merge};
+pub use laws::index_laws;
+pub use piece::{Piece, PieceWhat};
+
+#[cfg(test)]
+mod tests;
