@@ -1,0 +1,11 @@
+pub mod Replies
+pub mod Jobs
+pub mod Options
+pub mod Talks
+pub mod Handshakes
+pub mod Fits
+pub mod Sessions
+pub mod Examples
+pub mod SessionLaws
+pub mod Completeness
+pub mod RefusedExamples

@@ -1,0 +1,30 @@
+//! Serves one connection of the NBD protocol over any port of an image.
+#![tactic(auto)]
+
+mod asking;
+mod buffers;
+mod errno;
+mod export;
+mod handshake;
+mod job;
+mod jobs;
+mod laws;
+mod option_answers;
+mod reading;
+mod requests;
+mod sending;
+mod served;
+mod session;
+
+pub use errno::Errno;
+pub use export::{Export, NameBytes};
+pub use job::Job;
+pub use laws::session_laws;
+pub use option_answers::Phase;
+pub use served::Served;
+pub use session::serve_connection;
+
+#[cfg(test)]
+mod examples;
+#[cfg(test)]
+mod tests;
