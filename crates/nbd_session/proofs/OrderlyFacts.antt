@@ -1,7 +1,6 @@
 -- The client that reads one sector is in order.
-use Rattle.std.proofs.Common.{ℕ, List, [], ◌∷◌, take, drop, true, refl, inr, arith}
+use Rattle.std.proofs.Common.{[], ◌∷◌, take, drop, true, refl, inr, arith}
 use Rattle.std.proofs.lemmas.List.Elements.{All-nil, All-cons}
-use Rattle.nbd_wire.specs.declared.options.OptionHead.{OptionHead}
 use Rattle.nbd_wire.specs.declared.request.Request.{Request}
 use Rattle.nbd_wire.specs.Infos.{info_name, number_in}
 use Rattle.nbd_wire.specs.Options.{option_bytes}

@@ -7,7 +7,7 @@ use Rattle.std.proofs.lemmas.Bool.{cond-true, cond-false, cases_Bool, ltb-true, 
 use Rattle.std.proofs.lemmas.List.Elements.{All-nil, All-cons, All-head, All-tail}
 use Rattle.std.specs.Io.KnownBytes.{IsAtEnd}
 use Rattle.flat_image.specs.declared.base.Base.{Base}
-use Rattle.flat_image.specs.Ports.{PortState, IsWorn, Notes}
+use Rattle.flat_image.specs.Ports.{PortState, IsWorn}
 use Rattle.nbd_wire.specs.declared.hello.Hello.{Hello}
 use Rattle.nbd_wire.specs.declared.options.OptionHead.{OptionHead}
 use Rattle.nbd_wire.specs.declared.request.Request.{Request}
@@ -23,11 +23,11 @@ use Rattle.nbd_session.specs.declared.served.Served.{Served}
 use Rattle.nbd_session.specs.declared.served.Served.TheVariants.{Done, Aborted, BadHello, BadMagic, Truncated, Oversized, TooManyOptions, UnknownExport, TooManyRequests, SourceFault, SinkFault, Memory}
 use Rattle.nbd_session.specs.Replies.{Answer, reply_of}
 use Rattle.nbd_session.specs.Jobs.{job_of, is_known}
-use Rattle.nbd_session.specs.Options.{Next, More, Start, Stop, OptionAnswer, long_answer, short_answer}
-use Rattle.nbd_session.specs.Talks.{Passed, Talk, Rest, front, stop, stop_at, asks, with_job, tested, after_request, after_magic, one_request, transmission, goes_on, answered, after_option, after_head, with_head, options, after_hello, greeted, talk}
+use Rattle.nbd_session.specs.Options.{Next, More, Start, Stop, OptionAnswer}
+use Rattle.nbd_session.specs.Talks.{Talk, Rest, front, asks, tested, after_magic, one_request, transmission, goes_on, answered, after_option, after_head, with_head, options, after_hello, greeted, talk}
 use Rattle.nbd_session.specs.Fits.{Fits}
-use Rattle.nbd_session.specs.Sessions.{Ends, Why, Ended, Serves}
-use Rattle.nbd_session.specs.Completeness.{Offer, Message, answer_to, Begins, AreOptions, IsProper, IsGoodbye, IsOrderly, IsCalm, JobFits, Fitting, told, replies, IsWell, IsServed, OrderlyAreServed, NoneEnds, EndsOrWants}
+use Rattle.nbd_session.specs.Sessions.{Ends, Why}
+use Rattle.nbd_session.specs.Completeness.{Offer, Message, answer_to, AreOptions, IsProper, IsGoodbye, IsOrderly, IsCalm, JobFits, Fitting, told, replies, IsWell, IsServed, OrderlyAreServed, NoneEnds, EndsOrWants}
 use Rattle.nbd_session.proofs.Greetings.{greeted-whole, with_head-whole, options-some}
 use Rattle.nbd_session.proofs.Steps.{front-front}
 use Rattle.nbd_session.proofs.OneRequest.{one_request-whole, one_request-none, with_job-whole, after_request-done, after_request-tested}

@@ -1,18 +1,17 @@
 -- Where nothing fails and there is room, no request is answered with another error than ENOMEM.
-use Rattle.std.proofs.Common.{◌≡◌, ℕ, ◌<◌, ◌≤◌, ◌⊎◌, inl, inr, Bool, List, [], refl, subst, arith}
+use Rattle.std.proofs.Common.{ℕ, ◌<◌, ◌≤◌, inl, inr, Bool, List, refl, arith}
 use Rattle.flat_image.specs.declared.act.Act.{Act}
 use Rattle.flat_image.specs.declared.act.Act.TheVariants as act
 use Rattle.flat_image.specs.declared.base.Base.{Base}
 use Rattle.flat_image.specs.Entries.{StartsWith}
 use Rattle.flat_image.specs.History.{History}
 use Rattle.flat_image.specs.Ports.{PortState, IsWorn, Notes, HasRoomFor, IsOverFor}
-use Rattle.nbd_session.specs.declared.errno.Errno.{Errno}
 use Rattle.nbd_session.specs.declared.errno.Errno.TheVariants.{Permission, InputOutput, Memory, Invalid, Space, Shutdown}
 use Rattle.nbd_session.specs.declared.job.Job.{Job}
 use Rattle.nbd_session.specs.declared.job.Job.TheVariants.{Read, Write, Zero, Flush}
 use Rattle.nbd_session.specs.Replies.{Answer, Good, Bad}
 use Rattle.nbd_session.specs.Fits.{Does}
-use Rattle.nbd_session.specs.SessionLaws.{IsTooMuch, Holds}
+use Rattle.nbd_session.specs.SessionLaws.{IsTooMuch}
 use Rattle.nbd_session.specs.Completeness.{JobFits, IsWell}
 use Rattle.nbd_session.proofs.OneAnswer.{does_holds}
 use Rattle.nbd_session.proofs.FitsLaws.{does_io}

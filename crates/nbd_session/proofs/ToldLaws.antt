@@ -1,5 +1,5 @@
 -- A client that is in order is read to the end, where the source tells its bytes.
-use Rattle.std.proofs.Common.{◌≡◌, ℕ, zero, suc, ◌<◌, ◌^◌, ◌⊎◌, inl, inr, Bool, true, false, List, [], ◌∷◌, ◌++◌, length, All, refl, sym, ap, ◌∙◌, subst, arith, append_assoc, append-nil}
+use Rattle.std.proofs.Common.{◌≡◌, ℕ, zero, suc, ◌<◌, ◌^◌, inl, inr, Bool, true, List, [], ◌∷◌, ◌++◌, length, All, refl, sym, ap, ◌∙◌, subst, arith, append_assoc, append-nil}
 use Rattle.std.specs.Prelude.{Option, Some, None}
 use Rattle.std.specs.Io.KnownBytes.{Consumes, IsAtEnd}
 use Rattle.std.proofs.lemmas.Bool.{cases_Bool}
@@ -7,10 +7,10 @@ use Rattle.std.proofs.lemmas.List.Elements.{All-head, All-tail}
 use Rattle.nbd_session.specs.declared.export.Export.{Export}
 use Rattle.nbd_session.specs.declared.served.Served.{Served}
 use Rattle.nbd_session.specs.Replies.{Answer}
-use Rattle.nbd_session.specs.Talks.{Talk, one_request, transmission, talk}
+use Rattle.nbd_session.specs.Talks.{one_request, transmission, talk}
 use Rattle.nbd_session.specs.Fits.{Fits}
-use Rattle.nbd_session.specs.Sessions.{Ends, Ended}
-use Rattle.nbd_session.specs.Completeness.{Message, IsProper, IsGoodbye, IsOrderly, IsCalm, IsServed, NoneEnds, ToldAreServed, with_more}
+use Rattle.nbd_session.specs.Sessions.{Ends}
+use Rattle.nbd_session.specs.Completeness.{Message, IsProper, IsGoodbye, IsOrderly, NoneEnds, ToldAreServed}
 use Rattle.nbd_session.proofs.OrderlyLaws.{sent_by, goodbye, proper_asks, transmission_more, orderly_talk, end_of, orderly_served}
 use Rattle.nbd_session.proofs.FirmTalks.{firm_talk}
 

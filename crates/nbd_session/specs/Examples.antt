@@ -1,21 +1,19 @@
 -- Connections worked out by hand.
-use Rattle.std.specs.Prelude.{◌≡◌, ℕ, true, false, List, [], ◌∷◌, ◌++◌, length, take, drop, replicate, codes, Result, Ok, Err}
+use Rattle.std.specs.Prelude.{◌≡◌, ℕ, true, false, List, [], ◌∷◌, ◌++◌, length, take, drop, replicate, codes, Ok, Err}
 use Rattle.std.specs.List.{concat}
-use Rattle.std.specs.Int.{w16, w32, to_be_bytes}
+use Rattle.std.specs.Int.{w32, to_be_bytes}
 use Rattle.nbd_wire.specs.declared.request.Request.{Request}
 use Rattle.nbd_wire.specs.Options.{option_bytes}
 use Rattle.nbd_wire.specs.Requests.{request_bytes}
-use Rattle.nbd_session.specs.declared.errno.Errno.{Errno}
 use Rattle.nbd_session.specs.declared.errno.Errno.TheVariants.{Permission, Invalid, Space}
-use Rattle.nbd_session.specs.declared.job.Job.{Job}
 use Rattle.nbd_session.specs.Jobs.{job_of}
 use Rattle.nbd_session.specs.declared.export.Export.{Export}
 use Rattle.nbd_session.specs.declared.job.Job.TheVariants.{Read, Zero}
 use Rattle.nbd_session.specs.declared.served.Served.TheVariants.{Done, Truncated, Oversized, TooManyOptions, UnknownExport}
 use Rattle.nbd_wire.specs.Hellos.{server_hello}
-use Rattle.nbd_session.specs.Options.{listed, OptionAnswer}
-use Rattle.nbd_session.specs.Replies.{Answer, Good}
-use Rattle.nbd_session.specs.Talks.{Talk, talk}
+use Rattle.nbd_session.specs.Options.{listed}
+use Rattle.nbd_session.specs.Replies.{Good}
+use Rattle.nbd_session.specs.Talks.{talk}
 
 -- an export that may be written
 abbrev pub img : Export

@@ -20,7 +20,6 @@ pub use errno::Errno;
 pub use export::{Export, NameBytes};
 pub use job::Job;
 pub use laws::session_laws;
-pub use option_answers::Phase;
 pub use served::Served;
 pub use session::serve_connection;
 

@@ -12,7 +12,7 @@ use nbd_wire::{Hello, decode_info, info_block_size, info_export, join, name_repl
 
 /// What comes after an option.
 #[derive(Clone, Copy, Debug, PartialEq, Eq)]
-pub enum Phase {
+pub(crate) enum Phase {
     /// Another option.
     Options,
     /// The first request.

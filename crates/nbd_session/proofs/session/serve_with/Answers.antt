@@ -1,4 +1,4 @@
-use Rattle.std.proofs.Common.{◌≡◌, ◌^◌, subst, sym}
+use Rattle.std.proofs.Common.{◌^◌, subst}
 use Rattle.nbd_session.specs.Talks.{talk, transmission}
 use Rattle.nbd_session.specs.Sessions.{ends, Ended, Went}
 use Rattle.nbd_session.proofs.Steps.{ended_after}
