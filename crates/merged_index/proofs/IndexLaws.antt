@@ -1,15 +1,14 @@
 -- An index with one more layer on top.
-use Rattle.std.proofs.Common.{◌≡◌, ℕ, suc, ◌+◌, ◌-◌, ◌/◌, ◌<◌, ◌≤◌, List, [], ◌∷◌, ◌++◌, length, refl, sym, ap, subst, ◌∙◌, ◌⊎◌, inl, inr, arith}
+use Rattle.std.proofs.Common.{◌≡◌, ℕ, ◌+◌, ◌-◌, ◌/◌, ◌≤◌, List, [], ◌∷◌, ◌++◌, length, refl, sym, ap, subst, ◌∙◌, ◌⊎◌, inl, inr, arith}
 use Rattle.std.proofs.Math.ListN.{get_or}
 use Rattle.std.proofs.Math.Seq.{get_or-append_seam}
 use Rattle.std.proofs.lemmas.List.{get_or_append_left, length_push}
 use Rattle.std.proofs.lemmas.List.Elements.{All-nil, All-push}
 use Rattle.std.specs.Prelude.{All}
-use Rattle.seg_mapping.specs.declared.Row.{Row}
 use Rattle.sealed_layer.specs.Layers.{LayerIndex, IsLayerIndex}
 use Rattle.merged_index.specs.declared.piece.PieceWhat.{PieceWhat}
 use Rattle.merged_index.specs.declared.piece.PieceWhat.TheVariants.{Hole, Zero, Filled}
-use Rattle.merged_index.specs.Cells.{NumberedRows, Index, what_of, painted_what, cell_in, cells_of, numbered, IsRowEdge, IsSeenEdge, NamesData, IsIndexOf}
+use Rattle.merged_index.specs.Cells.{NumberedRows, what_of, painted_what, cell_in, numbered, IsRowEdge, IsSeenEdge, NamesData, IsIndexOf}
 use Rattle.merged_index.proofs.CellLaws.{cell_in-push, numbered-last, IsOfLayer, what_of-names}
 
 -- what names a layer's data names it when there is one layer more

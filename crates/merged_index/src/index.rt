@@ -65,7 +65,7 @@ impl MergedIndex {
         ensures within { result.until ≤ extent.at + extent.count }
         ensures room { result.pieces ≤ length out.new }
         ensures full { result.until < extent.at + extent.count → result.pieces ≡ length out.new }
-        // a piece ends only where the extent does, or where a row of a layer that is seen begins or ends
+        // a piece ends only where the extent does, or where a row begins or ends that no layer over it hides
         ensures unparted { All (IsUnparted self.now (extent.at + extent.count)) (take result.pieces out.new) }
         ensures rest { drop result.pieces out.new ≡ drop result.pieces out.old }
         ensures counted { steps.old ≤ steps.new }

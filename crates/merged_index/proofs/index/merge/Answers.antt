@@ -1,7 +1,6 @@
-use Rattle.std.proofs.Common.{◌≡◌, ℕ, ◌+◌, ◌<◌, ◌≤◌, List, [], ◌∷◌, ◌++◌, length, take, map, refl, sym, ap, subst, ◌∙◌, arith}
+use Rattle.std.proofs.Common.{◌≡◌, ◌+◌, ◌<◌, List, [], ◌∷◌, ◌++◌, length, take, map, refl, sym, ap, subst, ◌∙◌, arith}
 use Rattle.std.proofs.lemmas.List.{take_more, length-take-le}
 use Rattle.std.specs.Arc.{arc_value}
-use Rattle.sealed_layer.specs.Layers.{LayerIndex}
 use Rattle.merged_index.specs.Cells.{NumberedRows, IsIndexOf}
 use Rattle.merged_index.proofs.CellLaws.{map_push}
 use Rattle.merged_index.proofs.IndexLaws.{index_of-push}

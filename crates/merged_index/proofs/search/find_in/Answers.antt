@@ -5,7 +5,7 @@ use Rattle.std.proofs.lemmas.Grind.{drop_more_same}
 use Rattle.std.specs.Arc.{arc_value}
 use Rattle.merged_index.specs.declared.piece.Piece.{Piece}
 use Rattle.merged_index.specs.Cells.{Index, NumberedRows, cell_in, IsEdge}
-use Rattle.merged_index.specs.Pieces.{AreCells, IsUnparted, end_of}
+use Rattle.merged_index.specs.Pieces.{AreCells, IsUnparted}
 use Rattle.merged_index.proofs.PieceLaws.{AreCells-push, IsPiece-run}
 use Rattle.merged_index.proofs.search.find_in.Goals as goal
 

@@ -1,9 +1,9 @@
-use Rattle.std.proofs.Common.{◌≡◌, ℕ, List, ◌+◌, ◌-◌, ◌^◌, ◌<◌, ◌≤◌, length, take, sym, ap, subst, ◌∙◌, arith}
+use Rattle.std.proofs.Common.{◌≡◌, ◌+◌, ◌-◌, ◌^◌, ◌<◌, ◌≤◌, take, sym, ap, subst, ◌∙◌, arith}
 use Rattle.std.proofs.lemmas.List.{take_all}
 use Rattle.seg_mapping.specs.declared.Row.{Row}
 use Rattle.flat_image.specs.RowCells.{end_of}
 use Rattle.merged_index.specs.Cells.{what_of, what_by}
-use Rattle.merged_index.specs.Pieces.{onward, Fits}
+use Rattle.merged_index.specs.Pieces.{onward}
 use Rattle.merged_index.proofs.RowLaws.{what_of-behind, what_of-between, what_of-within, what_by-onward}
 use Rattle.merged_index.proofs.search.layer_run.Goals as goal
 

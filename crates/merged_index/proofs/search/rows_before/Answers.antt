@@ -1,4 +1,4 @@
-use Rattle.std.proofs.Common.{◌≡◌, ℕ, suc, ◌+◌, ◌-◌, ◌/◌, ◌<◌, ◌≤◌, length, take, sym, ap, subst, arith}
+use Rattle.std.proofs.Common.{◌≡◌, ℕ, ◌+◌, ◌-◌, ◌/◌, ◌<◌, length, take, arith}
 use Rattle.flat_image.specs.RowCells.{end_of}
 use Rattle.merged_index.proofs.RowLaws.{end_of-row}
 use Rattle.merged_index.proofs.search.rows_before.Goals as goal

@@ -1,4 +1,4 @@
-use Rattle.std.proofs.Common.{◌^◌, subst, sym, ◌∙◌, arith}
+use Rattle.std.proofs.Common.{◌^◌, subst, sym, arith}
 use Rattle.flat_image.specs.RowCells.{AreLayerRows}
 use Rattle.merged_index.proofs.RowLaws.{rows_in_any}
 use Rattle.merged_index.proofs.numbered.LayerRows.of.Goals as goal
