@@ -1,0 +1,12 @@
+pub mod Changes
+pub mod Fitting
+pub mod Files
+pub mod Gaps
+pub mod Loading
+pub mod Making
+pub mod Reading
+pub mod Reasons
+pub mod Rows
+pub mod Showing
+pub mod Stands
+pub mod View

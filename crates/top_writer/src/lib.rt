@@ -1,0 +1,25 @@
+//! The writable top of a layered image: three files of a disk that take what is written. A crash at
+//! any moment leaves files of which all is loaded that stood before the last flush.
+#![tactic(auto)]
+
+mod fault;
+mod flushing;
+mod layout;
+mod load_checks;
+mod load_fault;
+mod load_rows;
+mod loading;
+mod making;
+mod reading;
+mod stretch;
+mod top;
+mod waiting;
+mod writing;
+
+pub use fault::{ReadFault, TopFault, TopMakeFault, TopReason, WriteFault};
+pub use top::Top;
+
+#[cfg(test)]
+mod load_tests;
+#[cfg(test)]
+mod tests;
