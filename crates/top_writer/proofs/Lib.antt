@@ -24,3 +24,4 @@ pub mod FrontChecks
 pub mod LoadedFile
 pub mod OneStand
 pub mod LoadLaws
+pub mod RunLaws

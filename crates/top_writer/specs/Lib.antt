@@ -10,3 +10,4 @@ pub mod Rows
 pub mod Showing
 pub mod Stands
 pub mod View
+pub mod Runs

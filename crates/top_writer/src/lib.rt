@@ -4,6 +4,7 @@
 
 mod fault;
 mod flushing;
+mod laws;
 mod layout;
 mod load_checks;
 mod load_fault;
@@ -17,6 +18,7 @@ mod waiting;
 mod writing;
 
 pub use fault::{ReadFault, TopFault, TopMakeFault, TopReason, WriteFault};
+pub use laws::{call_laws, top_laws};
 pub use top::Top;
 
 #[cfg(test)]
