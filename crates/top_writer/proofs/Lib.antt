@@ -16,6 +16,7 @@ pub mod RowCellLaws
 pub mod SheetLaws
 pub mod ShowLaws
 pub mod StoreGoes
+pub mod TopLaws
 pub mod WriteGoes
 pub mod RowTable
 pub mod QuietLaws

@@ -34,7 +34,7 @@ sheet_part f at count n within =
     ∙ get_or-map-range_with_len f 0 n (at + i) (at + i) Hole (omega (arith, below, within)) (omega arith)
     ∙ sym (get_or-map-range_with_len f at count i (at + i) Hole below refl))
 
-map_same : (f g : ℕ → Cell) (at count : ℕ) → ((i : ℕ) → at ≤ i → i < at + count → f i ≡ g i) → map f (range_with_len at count) ≡ map g (range_with_len at count)
+pub map_same : (f g : ℕ → Cell) (at count : ℕ) → ((i : ℕ) → at ≤ i → i < at + count → f i ≡ g i) → map f (range_with_len at count) ≡ map g (range_with_len at count)
 map_same f g at count same =
     ext_get_or Hole (map f (range_with_len at count)) (map g (range_with_len at count)) (length-map-range_with_len f at count ∙ sym (length-map-range_with_len g at count))
     (λ i lt. let below : i < count = omega (arith, length-map-range_with_len f at count, lt) in
