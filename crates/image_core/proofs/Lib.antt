@@ -1,0 +1,9 @@
+pub mod FilesShown
+pub mod Lifts
+pub mod Named
+pub mod PieceStands
+pub mod SheetsRead
+pub mod ShownBase
+pub mod StackMore
+pub mod StandLaws
+pub mod TopShown

@@ -1,0 +1,11 @@
+pub mod FileSets
+pub mod Keeping
+pub mod Laws
+pub mod Manifest
+pub mod MayBe
+pub mod Numbers
+pub mod Opening
+pub mod Pieces
+pub mod Shows
+pub mod Standing
+pub mod View

@@ -1,0 +1,32 @@
+-- The body of the manifest's mark: how many layers are committed, the epoch of the top, the uuid of the commit in
+-- progress, and the sectors of the image.
+use Rattle.std.specs.Prelude.{◌≡◌, ◌≢◌, ℕ, List, take, drop, Option, Some, None, IfSome}
+use Rattle.std.specs.Int.{w64, from_le_bytes}
+use Rattle.lsmt_header.specs.Blocks.{nil}
+use Rattle.image_core.specs.Numbers.{with_pending}
+
+unfoldable pub count_said : List ℕ → ℕ
+count_said body = from_le_bytes w64 (take 8 body)
+
+unfoldable pub epoch_said : List ℕ → ℕ
+epoch_said body = from_le_bytes w64 (take 8 (drop 8 body))
+
+unfoldable pub uuid_said : List ℕ → List ℕ
+uuid_said body = take 16 (drop 16 body)
+
+unfoldable pub size_said : List ℕ → ℕ
+size_said body = from_le_bytes w64 (take 8 (drop 32 body))
+
+-- the uuid, or that of no layer
+abbrev pub uuid_or_nil : Option (List ℕ) → List ℕ
+uuid_or_nil None = nil
+uuid_or_nil (Some uuid) = uuid
+
+-- the body says so: of an image of n sectors so many layers are committed, and this commit is in progress or none. The
+-- top is that of the epoch behind the committed ones, or of the next where a commit is in progress.
+pub record Names (body : List ℕ) (done : ℕ) (pending : Option (List ℕ)) (n : ℕ) : Type 0 where
+  pub count : count_said body ≡ done
+  pub epoch : epoch_said body ≡ with_pending done pending
+  pub uuid : uuid_said body ≡ uuid_or_nil pending
+  pub named : IfSome pending (λ u. u ≢ nil)
+  pub size : size_said body ≡ n
