@@ -1,9 +1,16 @@
+pub mod Created
 pub mod FilesShown
 pub mod Lifts
+pub mod Loaded
+pub mod ManifestBodies
 pub mod Named
+pub mod PartsHold
 pub mod PieceStands
 pub mod SheetsRead
+pub mod Planned
+pub mod Reopening
 pub mod ShownBase
 pub mod StackMore
 pub mod StandLaws
+pub mod StepGoes
 pub mod TopShown

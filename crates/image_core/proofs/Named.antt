@@ -12,7 +12,7 @@ use Rattle.image_core.specs.Numbers.{manifest_file, sealed_file}
 use Rattle.image_core.specs.Shows.{epoch_of, parent_asked, ShowsStand, ShowsFrozen, IsFrozenFile}
 use Rattle.image_core.specs.Laws.{ShowsByNamed}
 
-stored-same : (epoch : ℕ) (files other : Files) → ((f : ℕ) → TopFiles epoch f → other f ≡ files f) → stored_in epoch files ≡ stored_in epoch other
+pub stored-same : (epoch : ℕ) (files other : Files) → ((f : ℕ) → TopFiles epoch f → other f ≡ files f) → stored_in epoch files ≡ stored_in epoch other
 stored-same epoch files other same =
     let bytes : files (data_file epoch) ≡ other (data_file epoch) = sym (same (data_file epoch) (inl refl)) in
     let index : files (index_file epoch) ≡ other (index_file epoch) = sym (same (index_file epoch) (inr (inl refl))) in

@@ -14,7 +14,7 @@ use Rattle.layer_stack.proofs.StackLemmas.{AreFree-push, AreFree-none, Legal-fro
 use Rattle.image_core.specs.Shows.{IsHeadOf, AreHeadsOf, AreStack}
 
 -- as many heads as files
-heads-length : (n : ℕ) (files : List (List ℕ)) (heads : List Head) → AreHeadsOf n files heads → length heads ≡ length files
+pub heads-length : (n : ℕ) (files : List (List ℕ)) (heads : List Head) → AreHeadsOf n files heads → length heads ≡ length files
 heads-length n [] [] are = refl
 heads-length n [] (head ∷ heads) are = absurd are
 heads-length n (file ∷ files) [] are = absurd are

@@ -23,7 +23,7 @@ use Rattle.top_writer.specs.Rows.{IsTopRow, top_sheet}
 use Rattle.top_writer.specs.Showing.{ShowsTop}
 
 -- each cell that rows make of sectors that are stored is whole
-stored_cell : (file : List ℕ) (n filled : ℕ) (rows : List Row) → All (IsTopRow n filled) rows → 4096 + 512 * filled ≤ length file → (p : ℕ) → IsCell (cell_of file rows p)
+pub stored_cell : (file : List ℕ) (n filled : ℕ) (rows : List Row) → All (IsTopRow n filled) rows → 4096 + 512 * filled ≤ length file → (p : ℕ) → IsCell (cell_of file rows p)
 stored_cell file n filled [] are long p = tt
 stored_cell file n filled (row ∷ rows) are long p =
     elim (covers row p) as (λ b. covers row p ≡ b → IsCell (cond b (cell_by file row p) (cell_of file rows p))) [
@@ -34,7 +34,7 @@ stored_cell file n filled (row ∷ rows) are long p =
     refl
 
 -- what holds of each row holds in the other order
-all_reversed : (P : Row → Type 0) (rows : List Row) → All P rows → All P (reverse rows)
+pub all_reversed : (P : Row → Type 0) (rows : List Row) → All P rows → All P (reverse rows)
 all_reversed P [] are = All-nil P
 all_reversed P (row ∷ rows) are =
     let long : length (reverse (row ∷ rows)) ≡ length (row ∷ rows) = length-reverse (row ∷ rows) in

@@ -1,11 +1,15 @@
+pub mod Creating
 pub mod FileSets
 pub mod Keeping
 pub mod Laws
+pub mod Loading
 pub mod Manifest
 pub mod MayBe
 pub mod Numbers
 pub mod Opening
+pub mod Parts
 pub mod Pieces
+pub mod Planning
 pub mod Shows
 pub mod Standing
 pub mod View

@@ -6,6 +6,10 @@ ghost use Rattle.flat_image.specs.History.{History};
 ghost use Rattle.sealed_layer.specs.Layers.{LayerIndex};
 ghost use Rattle.merged_index.specs.declared.piece.Piece.{Piece};
 ghost use Rattle.image_core.specs.View.{ImageView};
+ghost use Rattle.image_core.specs.declared.loading.LoadFault.{LoadFault};
+ghost use Rattle.image_core.specs.declared.parts.Parts.{Parts};
+ghost use Rattle.image_core.specs.Loading.{Reopens, ReopensAs};
+ghost use Rattle.image_core.specs.Planning.{PlanReads};
 ghost use Rattle.image_core.specs.Pieces.{SnapshotView, PieceStandsThere};
 ghost use Rattle.image_core.specs.Laws.{ShowsABase, ShowsOneBase, ShowsByNamed, KeptShows, SealedStay, BlankHasKinds, KeepsStands, HistoryReads, ImageReads, HistoryTells};
 
@@ -38,4 +42,15 @@ pub fn standing_laws<D: Disk>(disk: &D, other: &D)
     ensures history { (v : ImageView) (base : Base) (history : History) → HistoryReads D.tells (D.state disk.now) (D.faults disk.now) v base history }
     ensures image { (v : ImageView) (base : Base) (history : History) → ImageReads D.tells (D.state disk.now) (D.faults disk.now) v base history }
     ensures told { (v w : ImageView) → HistoryTells D.tells (D.state disk.now) (D.faults disk.now) v (D.state other.now) (D.faults other.now) w }
+{}
+
+/// What loading files gives that show an image without commits.
+pub fn loading_laws<D: Disk>(old: &D, new: &D)
+    ensures reopens { (files : Files) (base : Base) (layers : List LayerIndex) (fault : LoadFault) → Reopens files base layers fault }
+    ensures stands { (parts : Parts) (base : Base) → ReopensAs D.tells (D.state old.now) (D.state new.now) (D.faults new.now) parts base }
+{}
+
+/// What a plan reads of an image on this disk.
+pub fn planning_law<D: Disk>(disk: &D)
+    ensures { (parts : Parts) (base : Base) (history : History) (at count : ℕ) (old new : List ℕ) → PlanReads D.tells (D.state disk.now) (D.faults disk.now) parts base history at count old new }
 {}

@@ -2,10 +2,22 @@
 //! stands for a history.
 #![tactic(auto)]
 
+mod creating;
+mod image;
 mod laws;
+mod loading;
+mod manifest;
+mod parts;
 mod snapshot;
 mod status;
 
-pub use laws::{left_laws, reading_laws, showing_laws, standing_laws};
+pub use creating::CreateFault;
+pub use image::Image;
+pub use laws::{left_laws, loading_laws, planning_law, reading_laws, showing_laws, standing_laws};
+pub use loading::LoadFault;
+pub use parts::LayerList;
 pub use snapshot::Snapshot;
 pub use status::Status;
+
+#[cfg(test)]
+mod tests;

@@ -1,5 +1,5 @@
 ghost use Rattle.std.specs.Prelude.{◌≡◌};
-ghost use Rattle.top_writer.specs.View.{table_of, rows_used, sectors_used};
+ghost use Rattle.top_writer.specs.View.{table_of, sectors_of, rows_used, sectors_used};
 
 use gate_mark::Mark;
 use seg_table::SegTable;
@@ -23,6 +23,13 @@ pub struct Top {
 }
 
 impl Top {
+    /// The sectors of the image.
+    pub fn sectors(&self) -> u64
+        ensures { result ≡ sectors_of self.now }
+    {
+        self.sectors
+    }
+
     /// The rows that it uses, and the sectors of data.
     pub fn used(&self) -> (u64, u64)
         ensures rows { result.0 ≡ rows_used self.now }

@@ -47,6 +47,7 @@ impl Top {
             ↔ (result ≡ Err (Full (rows_used self.old) (sectors_used self.old))) }
         ensures only { (rows sectors : ℕ) → result ≡ Err (Full rows sectors) → (rows ≡ rows_used self.old) × (sectors ≡ sectors_used self.old) }
         ensures fitted { IsFitted D.tells (D.state disk.new) self.new }
+        ensures mark { (view_of self.new).mark ≡ (view_of self.old).mark }
         ensures failed { IsErrOf result Failed → D.faults disk.old < D.faults disk.new }
         ensures later { D.faults disk.old ≤ D.faults disk.new }
     {

@@ -1,0 +1,178 @@
+-- What a load has found makes an image that stands for what the files show.
+use Rattle.std.proofs.Common.{◌≡◌, ℕ, zero, suc, ◌+◌, ◌*◌, ◌^◌, ◌<◌, ◌≤◌, Bool, IsTrue, List, [], ◌∷◌, ◌++◌, length, take, reverse, refl, sym, ap, ◌∙◌, subst, arith}
+use Rattle.std.specs.Prelude.{All, Option, Some, None, slice_index_or}
+use Rattle.std.specs.Arc.{arc_value}
+use Rattle.std.specs.List.{range_with_len}
+use Rattle.std.proofs.lemmas.List.{take_more, get_or-map, length-map, length-reverse}
+use Rattle.std.proofs.lemmas.Grind.{get_or_head}
+use Rattle.block_disk.specs.DiskState.{DiskState, Files}
+use Rattle.block_disk.specs.Claims.{Quiet}
+use Rattle.gate_mark.specs.Mark.{file_of, IsKept, MayHold}
+use Rattle.lsmt_header.specs.declared.head.Head.{Head}
+use Rattle.lsmt_header.specs.Blocks.{IsSize, nil}
+use Rattle.sealed_layer.specs.Layers.{LayerIndex}
+use Rattle.flat_image.specs.declared.base.Base.{Base}
+use Rattle.flat_image.specs.Sheets.{Cell, IsCell, IsSheet}
+use Rattle.flat_image.specs.RowCells.{cell_of}
+use Rattle.flat_image.specs.CanonicalFiles.{stretches}
+use Rattle.flat_image.specs.Base.{top_uuid}
+use Rattle.flat_image.specs.Left.{Stand}
+use Rattle.flat_image.proofs.LayerLaws.{length-range, all_cells}
+use Rattle.flat_image.proofs.RowStretches.{rows-make_few}
+use Rattle.top_writer.specs.declared.fault.TopReason.{TopReason}
+use Rattle.top_writer.specs.Files.{stored_in}
+use Rattle.top_writer.specs.Fitting.{TopFits, ViewFits}
+use Rattle.top_writer.specs.Reasons.{IsReason}
+use Rattle.top_writer.specs.Rows.{IsTopRow}
+use Rattle.top_writer.specs.Showing.{ShowsTop}
+use Rattle.top_writer.specs.View.{TopView, view_of, epoch_of, sequence_of}
+use Rattle.image_core.specs.declared.loading.LoadFault.{LoadFault}
+use Rattle.image_core.specs.declared.loading.LoadFault.TheVariants as why
+use Rattle.image_core.specs.declared.parts.Parts.{Parts}
+use Rattle.image_core.specs.Numbers.{manifest_file}
+use Rattle.image_core.specs.Manifest.{Names, size_said}
+use Rattle.image_core.specs.Shows.{IsSound}
+use Rattle.image_core.specs.View.{AreLayersOf}
+use Rattle.image_core.specs.Pieces.{IsSnapshotOf}
+use Rattle.image_core.specs.Parts.{IsLoaded}
+use Rattle.image_core.specs.Creating.{AreLegal, fresh_at}
+use Rattle.image_core.specs.Loading.{heads_in, upper_uuid, IsBareBody, HasManifest, HaveSize, AreStackOrNone, IsLowersReason, IsLoadReason}
+use Rattle.image_core.proofs.Created.{files-parent, fresh-sound, fresh-base}
+use Rattle.image_core.proofs.Lifts.{kept-one}
+use Rattle.image_core.proofs.Named.{stored-same}
+use Rattle.image_core.proofs.PartsHold.{top-room}
+use Rattle.image_core.proofs.TopShown.{stored_cell, all_reversed}
+
+-- one head more
+pub heads-more : (layers : List LayerIndex) (heads : List Head) (i : ℕ) (x : Head) (y : LayerIndex) → i < length layers → slice_index_or layers i y ≡ y → x ≡ y.head
+    → heads ≡ take i (heads_in layers) → heads ++ x ∷ [] ≡ take (i + 1) (heads_in layers)
+heads-more layers heads i x y below is same so_far =
+    let here : x ≡ slice_index_or (heads_in layers) i x =
+    same ∙ (ap (λ (l : LayerIndex). l.head) (sym is) ∙ sym (get_or-map (λ (l : LayerIndex). l.head) layers i y x below)) in
+    (λ j. so_far j ++ here j ∷ []) ∙ sym (take_more (heads_in layers) i x (omega (arith, below, length-map layers (λ (l : LayerIndex). l.head))))
+
+-- the uuid of the uppermost layer
+upper-at : (layers : List LayerIndex) (i : ℕ) (d : LayerIndex) → suc i ≡ length layers → (slice_index_or layers i d).head.uuid ≡ upper_uuid layers
+upper-at [] i d last = absurd (omega (arith, last))
+upper-at (layer ∷ []) i d last = ap (λ (l : LayerIndex). l.head.uuid) (get_or_head layer [] i d (omega (arith, last)))
+upper-at (layer ∷ next ∷ layers) zero d last = absurd (omega (arith, last))
+upper-at (layer ∷ next ∷ layers) (suc i) d last = upper-at (next ∷ layers) i d (omega (arith, last))
+
+pub parent-upper : (layers : List LayerIndex) (parent : List ℕ) → (length layers ≡ 0 → parent ≡ nil)
+    → ((d : LayerIndex) (i : ℕ) → i + 1 ≡ length layers → parent ≡ (slice_index_or layers i d).head.uuid) → parent ≡ upper_uuid layers
+parent-upper [] parent none some = none refl
+parent-upper (layer ∷ layers) parent none some = some layer (length layers) (omega arith) ∙ upper-at (layer ∷ layers) (length layers) layer refl
+
+-- lower layers that are no stack, behind a manifest that is one of an image
+pub lowers-reason : (files : Files) (body : List ℕ) (layers : List LayerIndex) (n : ℕ) (fault : LoadFault) → n ≡ size_said body → HasManifest files body → IsBareBody body
+    → IsLowersReason n layers fault → IsLoadReason files layers fault
+lowers-reason files body layers n why.Memory same manifest bare reason = tt
+lowers-reason files body layers n why.SizeDiffers same manifest bare reason = (body, manifest, bare, subst (λ m. IsLowersReason m layers why.SizeDiffers) same reason)
+lowers-reason files body layers n (why.Stack fault) same manifest bare reason = (body, manifest, bare, subst (λ m. IsLowersReason m layers (why.Stack fault)) same reason)
+lowers-reason files body layers n why.Failed same manifest bare reason = tt
+lowers-reason files body layers n why.NoImage same manifest bare reason = absurd reason
+lowers-reason files body layers n (why.ManifestWorn sequence) same manifest bare reason = absurd reason
+lowers-reason files body layers n why.ManifestBad same manifest bare reason = absurd reason
+lowers-reason files body layers n (why.NoTop epoch reason') same manifest bare reason = absurd reason
+
+-- files of a top that are none, behind lower layers that are a stack
+pub top-reason : (old mid : DiskState) (body : List ℕ) (layers slice other : List LayerIndex) (n : ℕ) (parent : List ℕ) (reason : TopReason) → Quiet old mid
+    → HasManifest old.seen body → IsBareBody body → n ≡ size_said body → slice ≡ layers → HaveSize n slice → AreStackOrNone slice → other ≡ layers
+    → (length other ≡ 0 → parent ≡ nil) → ((d : LayerIndex) (i : ℕ) → i + 1 ≡ length other → parent ≡ (slice_index_or other i d).head.uuid)
+    → IsReason n (Some parent) (stored_in 0 mid.seen) reason → IsLoadReason old.seen layers (why.NoTop 0 reason)
+top-reason old mid body layers slice other n parent reason quiet manifest bare size same sizes stack others none some is =
+    let uppermost : parent ≡ upper_uuid layers = parent-upper other parent none some ∙ ap upper_uuid others in
+    let stored : stored_in 0 mid.seen ≡ stored_in 0 old.seen = stored-same 0 mid.seen old.seen (λ f of_top. sym (quiet.others.seen f (λ none. none))) in (
+      body,
+      manifest,
+      bare,
+      subst (λ m. HaveSize m layers) size (subst (HaveSize n) same sizes),
+      subst AreStackOrNone same stack,
+      refl,
+      subst (λ m. IsReason m (Some (upper_uuid layers)) (stored_in 0 old.seen) reason) size
+          (subst (λ u. IsReason n (Some u) (stored_in 0 old.seen) reason) uppermost (subst (λ t. IsReason n (Some parent) t reason) stored is)),
+    )
+
+-- the sheet of a top in memory is one, of few stretches
+module _ (tells : Bool) (disk : DiskState) (n : ℕ) (parent : Option (List ℕ)) (v : TopView) (s : Stand) (may : List Stand) (fits : ViewFits tells disk n parent v s may) where
+  top-sheet : IsSize n → IsSheet n s.cells
+  top-sheet size =
+      let holds = fits.holds in record {
+        some = size.0;
+        few = size.1;
+        count = ap (length {A = Cell}) holds.cells ∙ (length-map (range_with_len 0 n) (cell_of fits.file (reverse fits.rows)) ∙ length-range 0 n);
+        cells = subst (All IsCell) (sym holds.cells)
+            (all_cells fits.file (reverse fits.rows)
+            (stored_cell fits.file n v.filled (reverse fits.rows) (all_reversed (IsTopRow n v.filled) fits.rows holds.sound) (omega (arith, holds.long))) 0 n);
+      }
+
+  top-few : length (stretches 0 s.cells) ≤ 2 * s.rows
+  top-few =
+      let holds = fits.holds in
+      subst (λ (cells : List Cell). length (stretches 0 cells) ≤ 2 * s.rows) (sym holds.cells)
+      (omega (arith, rows-make_few fits.file n (reverse fits.rows), length-reverse fits.rows, holds.number, holds.rows_are))
+
+-- the parts that a load has found
+pub loaded : (tells : Bool) (old mid new : DiskState) (faults : ℕ) (p : Parts) (n : ℕ) (files : List (List ℕ)) (layers slice : List LayerIndex) (parent body : List ℕ) (s : Stand)
+    → AreLayersOf files layers → length layers ≤ 255 → HaveSize n layers → AreStackOrNone layers → slice ≡ layers → p.lowers ≡ layers → p.steps ≡ 0
+    → IsSnapshotOf (arc_value p.snapshot) layers [] → (length slice ≡ 0 → parent ≡ nil)
+    → ((d : LayerIndex) (i : ℕ) → i + 1 ≡ length slice → parent ≡ (slice_index_or slice i d).head.uuid)
+    → Quiet old mid → Quiet mid new → file_of p.manifest ≡ manifest_file → IsKept mid p.manifest → ((b : List ℕ) → MayHold p.manifest b → b ≡ body)
+    → (IsTrue tells → HasManifest old.seen body) → IsBareBody body → n ≡ size_said body
+    → TopFits tells new n (Some parent) p.top s (s ∷ []) → (IsTrue tells → ShowsTop n (Some parent) s (stored_in 0 mid.seen)) → epoch_of p.top ≡ 0 → sequence_of p.top ≤ 2 ^ 61
+    → IsLoaded tells old new faults files p
+loaded tells old mid new faults p n files layers slice parent body s are few sizes stack same lowers steps snapshot none some first second file kept bodies manifest bare size top shows epoch low =
+    let length_is : length slice ≡ length layers = ap (length {A = LayerIndex}) same in
+    let uppermost : parent ≡ top_uuid files =
+    files-parent files layers parent are (λ empty. none (length_is ∙ empty))
+    (λ d i last. some d i (last ∙ sym length_is) ∙ ap (λ (l : List LayerIndex). (slice_index_or l i d).head.uuid) same) in
+    let is_size : IsSize n = subst IsSize (sym size) bare.size in
+    let legal : AreLegal n layers = record { few = few; sizes = sizes; legal = stack } in
+    let sound : IsSound (fresh_at n files faults) = fresh-sound n files layers faults legal is_size are in
+    let fits : TopFits tells new n (Some (top_uuid files)) p.top s (s ∷ []) = subst (λ (u : List ℕ). TopFits tells new n (Some u) p.top s (s ∷ [])) uppermost top in
+    let b : Base = record { sectors = n; lowers = files; done = []; frozen = None; top = s.cells; rows = s.rows; filled = s.filled; faults = faults } in
+    let b_sound : IsSound b = record { size = sound.size; few = sound.few; stack = sound.stack; unlike = tt } in
+    let names : Names body 0 None n = record { count = bare.count; epoch = bare.epoch; uuid = bare.uuid; named = tt; size = sym size } in
+    record {
+      base = b;
+      lowers_are = refl;
+      faults_are = refl;
+      shows = λ told.
+          let held = manifest told in record {
+            sequence = held.sequence;
+            body = body;
+            manifest = held.shows;
+            names = names;
+            sound = b_sound;
+            done = λ k below. absurd (omega (arith, below));
+            frozen = tt;
+            top = subst (λ (u : List ℕ). ShowsTop n (Some u) s (stored_in 0 old.seen)) uppermost
+                (subst (ShowsTop n (Some parent) s) (stored-same 0 mid.seen old.seen (λ f of_top. sym (first.others.seen f (λ none. none)))) (shows told));
+          };
+      stands = record {
+        base_is = record {
+          top_is = top-sheet tells new n (Some (top_uuid files)) (view_of p.top) s (s ∷ []) fits is_size;
+          frozen_is = tt;
+          layers = (fresh-base n files layers faults legal is_size are).layers;
+        };
+        few = record { top = top-few tells new n (Some (top_uuid files)) (view_of p.top) s (s ∷ []) fits; frozen = tt };
+        proper = top-room tells new n (Some (top_uuid files)) (view_of p.top) s (s ∷ []) fits;
+        failed = omega arith;
+        steps = steps;
+        low = omega (arith, low);
+        tops = s ∷ [];
+        fits = record {
+          sound = b_sound;
+          none_done = refl;
+          none_frozen = refl;
+          manifest_is = file;
+          manifest = λ c left. kept c (second.others.left p.manifest.file c (λ none. none) left);
+          named = λ c may. subst (λ (x : List ℕ). Names x 0 None n) (sym (bodies c may)) names;
+          lowers = subst (AreLayersOf files) (sym lowers) are;
+          snapshot = subst (λ l. IsSnapshotOf (arc_value p.snapshot) l []) (sym lowers) snapshot;
+          epoch = epoch;
+          top = fits;
+        };
+        kept = kept-one b [] s refl;
+      };
+    }

@@ -1,0 +1,131 @@
+-- Files that show an image without commits are loaded as that image.
+use Rattle.std.proofs.Common.{◌≡◌, ℕ, ◌^◌, ◌≤◌, inl, inr, Bool, List, [], ◌∷◌, ◌++◌, length, refl, sym, ap, ◌∙◌, subst, arith}
+use Rattle.std.specs.Prelude.{Option, Some, None}
+use Rattle.std.proofs.lemmas.List.{append-nil, length-map}
+use Rattle.std.proofs.lemmas.List.Elements.{All-nil, All-cons}
+use Rattle.block_disk.specs.DiskState.{DiskState, Files}
+use Rattle.lsmt_header.specs.declared.head.Head.{Head}
+use Rattle.lsmt_header.specs.Blocks.{IsSize}
+use Rattle.sealed_layer.specs.Layers.{LayerIndex}
+use Rattle.sealed_layer.proofs.LayerUnique.{one_layer}
+use Rattle.layer_stack.proofs.StackLemmas.{fault_not_legal}
+use Rattle.flat_image.specs.declared.base.Base.{Base}
+use Rattle.flat_image.specs.Base.{pending_of, top_uuid}
+use Rattle.flat_image.specs.Left.{stand}
+use Rattle.top_writer.specs.Files.{stored_in}
+use Rattle.flat_image.specs.Stacks.{Legal}
+use Rattle.top_writer.specs.declared.fault.TopReason.{TopReason}
+use Rattle.top_writer.specs.Reasons.{IsReason}
+use Rattle.top_writer.proofs.OneStand.{no_reason}
+use Rattle.image_core.specs.declared.loading.LoadFault.{LoadFault}
+use Rattle.image_core.specs.declared.loading.LoadFault.TheVariants as why
+use Rattle.image_core.specs.declared.parts.Parts.{Parts}
+use Rattle.image_core.specs.Numbers.{manifest_file, with_pending}
+use Rattle.image_core.specs.Manifest.{size_said, uuid_or_nil}
+use Rattle.image_core.specs.Shows.{epoch_of, AreHeadsOf, AreStack, ShowsStand, Shows}
+use Rattle.image_core.specs.View.{AreLayersOf}
+use Rattle.image_core.specs.Parts.{ImageStands}
+use Rattle.image_core.specs.Loading.{heads_in, upper_uuid, IsBareBody, HasManifest, HaveSize, Reopens, ReopensAs}
+use Rattle.image_core.proofs.Created.{layer-file}
+use Rattle.image_core.proofs.ShownBase.{shows-one_base}
+use Rattle.image_core.proofs.StackMore.{heads-length}
+use Rattle.image_core.proofs.TopShown.{one-body}
+use Rattle.flat_image.specs.RowCells.{sheet_of}
+use Rattle.flat_image.proofs.LayerLaws.{uuid_in-layer}
+
+-- the heads of files are those of their layers
+same-heads : (n : ℕ) (files : List (List ℕ)) (heads : List Head) (layers : List LayerIndex) → AreHeadsOf n files heads → AreLayersOf files layers
+    → (heads ≡ heads_in layers) × HaveSize n layers
+same-heads n [] [] [] are of = (refl, All-nil (λ (l : LayerIndex). l.head.sectors ≡ n))
+same-heads n [] [] (layer ∷ layers) are of = absurd of
+same-heads n [] (head ∷ heads) layers are of = absurd are
+same-heads n (file ∷ files) [] layers are of = absurd are
+same-heads n (file ∷ files) (head ∷ heads) [] are of = absurd of
+same-heads n (file ∷ files) (head ∷ heads) (layer ∷ layers) are of =
+    let one = one_layer file head layer.head are.0.layer.rows layer.rows are.0.layer.layer of.0 in
+    let rest = same-heads n files heads layers are.1 of.1 in
+    let here : head ≡ layer.head = one.0 in
+    let others = rest.0 in (
+      λ i. here i ∷ others i,
+      All-cons (λ (l : LayerIndex). l.head.sectors ≡ n) layer layers (ap (λ (h : Head). h.sectors) (sym here) ∙ are.0.size) rest.1,
+    )
+
+-- the uuid of the uppermost layer is that of the uppermost file
+same-upper : (files : List (List ℕ)) (layers : List LayerIndex) → AreLayersOf files layers → upper_uuid layers ≡ top_uuid files
+same-upper [] [] are = refl
+same-upper [] (layer ∷ layers) are = absurd are
+same-upper (file ∷ files) [] are = absurd are
+same-upper (file ∷ []) (layer ∷ []) are = sym (uuid_in-layer file layer.head (sheet_of file layer.head.sectors layer.rows) (layer-file file layer are.0))
+same-upper (file ∷ []) (layer ∷ next ∷ layers) are = absurd are.1
+same-upper (file ∷ next ∷ files) (layer ∷ []) are = absurd are.1
+same-upper (file ∷ next ∷ files) (layer ∷ above ∷ layers) are = same-upper (next ∷ files) (above ∷ layers) are.1
+
+heads-long : (layers : List LayerIndex) → length (heads_in layers) ≡ length layers
+heads-long layers = length-map layers (λ (l : LayerIndex). l.head)
+
+abbrev sequence_or : Option (ℕ × List ℕ) → ℕ
+sequence_or None = 0
+sequence_or (Some held) = held.0
+
+module _ (files : Files) (b : Base) (layers : List LayerIndex) (shows : Shows files b) (none_done : b.done ≡ []) (none_frozen : b.frozen ≡ None) (are : AreLayersOf b.lowers layers) where
+  bare : IsBareBody shows.body
+  bare = record {
+    count = shows.names.count ∙ ap (length {A = List ℕ}) none_done;
+    epoch = shows.names.epoch ∙ (λ i. with_pending (length (none_done i)) (pending_of (none_frozen i)));
+    uuid = shows.names.uuid ∙ ap (λ f. uuid_or_nil (pending_of f)) none_frozen;
+    size = subst IsSize (sym shows.names.size) shows.sound.size;
+  }
+
+  body_is : (body : List ℕ) → HasManifest files body → body ≡ shows.body
+  body_is body manifest = one-body (files manifest_file) manifest.sequence shows.sequence body shows.body manifest.shows shows.manifest
+
+  size_is : (body : List ℕ) → HasManifest files body → size_said body ≡ b.sectors
+  size_is body manifest = ap size_said (body_is body manifest) ∙ shows.names.size
+
+  stack : AreStack b.sectors b.lowers
+  stack = subst (AreStack b.sectors) (append-nil b.lowers) (subst (λ (d : List (List ℕ)). AreStack b.sectors (b.lowers ++ d)) none_done shows.sound.stack)
+
+  sizes : HaveSize b.sectors layers
+  sizes = (same-heads b.sectors b.lowers stack.heads layers stack.are are).1
+
+  no-top : shows.top.sequence ≤ 2 ^ 61 → (body : List ℕ) → HasManifest files body → (reason : TopReason) → IsReason (size_said body) (Some (upper_uuid layers)) (stored_in 0 files) reason → ⊥
+  no-top low body manifest reason bad =
+      let epoch : epoch_of b ≡ 0 = λ i. with_pending (length (none_done i)) (pending_of (none_frozen i)) in
+      let top = subst (λ (e : ℕ). (x : ShowsStand e b.sectors b.lowers (stand b) files) × (x.sequence ≤ 2 ^ 61)) epoch (shows.top, low) in
+      no_reason b.sectors (Some (top_uuid b.lowers)) (stand b) (stored_in 0 files) top.0 top.1 reason
+      (subst (λ u. IsReason b.sectors (Some u) (stored_in 0 files) reason) (same-upper b.lowers layers are)
+      (subst (λ m. IsReason m (Some (upper_uuid layers)) (stored_in 0 files) reason) (size_is body manifest) bad))
+
+pub reopens : (files : Files) (b : Base) (layers : List LayerIndex) (fault : LoadFault) → Reopens files b layers fault
+reopens files b layers why.Memory shows low none_done none_frozen are bad = inl refl
+reopens files b layers why.Failed shows low none_done none_frozen are bad = inr refl
+reopens files b layers why.NoImage shows low none_done none_frozen are bad = absurd (let e : Some (shows.sequence, shows.body) ≡ None = sym shows.manifest ∙ bad in cc)
+reopens files b layers (why.ManifestWorn sequence) shows low none_done none_frozen are bad =
+    let same : sequence ≡ shows.sequence = ap sequence_or (sym bad.0.1 ∙ shows.manifest) in absurd (omega (arith, same, bad.1, low.manifest))
+reopens files b layers why.ManifestBad shows low none_done none_frozen are bad =
+    absurd (bad.2 (subst IsBareBody (sym (body_is files b layers shows none_done none_frozen are bad.0 bad.1)) (bare files b layers shows none_done none_frozen are)))
+reopens files b layers why.SizeDiffers shows low none_done none_frozen are bad =
+    absurd (bad.3 (subst (λ m. HaveSize m layers) (sym (size_is files b layers shows none_done none_frozen are bad.0 bad.1)) (sizes files b layers shows none_done none_frozen are)))
+reopens files b layers (why.Stack fault) shows low none_done none_frozen are bad =
+    let st = stack files b layers shows none_done none_frozen are in
+    let heads = (same-heads b.sectors b.lowers st.heads layers st.are are).0 in
+    let count : length st.heads ≡ length b.lowers = heads-length b.sectors b.lowers st.heads st.are in
+    let some : 1 ≤ length b.lowers = omega (arith, bad.3.1, count, ap (length {A = Head}) heads, heads-long layers) in
+    absurd (fault_not_legal (heads_in layers) fault bad.3.2 (subst Legal heads (st.legal some)))
+reopens files b layers (why.NoTop epoch reason) shows low none_done none_frozen are bad =
+    absurd (no-top files b layers shows none_done none_frozen are low.top bad.0 bad.1 reason bad.6)
+
+pub reopens-as : (tells : Bool) (old new : DiskState) (faults : ℕ) (p : Parts) (b : Base) → ReopensAs tells old new faults p b
+reopens-as tells old new faults p b loaded told shows =
+    let other : Base = record b { faults = faults } in
+    let again : Shows old.seen other = record {
+      sequence = shows.sequence;
+      body = shows.body;
+      manifest = shows.manifest;
+      names = shows.names;
+      sound = record { size = shows.sound.size; few = shows.sound.few; stack = shows.sound.stack; unlike = shows.sound.unlike };
+      done = shows.done;
+      frozen = shows.frozen;
+      top = shows.top;
+    } in
+    subst (λ c. ImageStands tells new faults p c []) (shows-one_base old.seen loaded.base other (loaded.shows told) again loaded.lowers_are loaded.faults_are) loaded.stands

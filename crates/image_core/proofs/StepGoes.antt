@@ -1,0 +1,184 @@
+-- Steps of an image that are calls on its top.
+use Rattle.std.proofs.Common.{◌≡◌, ℕ, ◌+◌, ◌*◌, ◌≤◌, inl, inr, Bool, false, List, [], ◌∷◌, ◌++◌, length, refl, sym, ap, ◌∙◌, subst, arith, length-append}
+use Rattle.std.specs.Prelude.{All, Option, Some, None}
+use Rattle.std.specs.Arc.{arc_value}
+use Rattle.std.proofs.lemmas.List.Elements.{All-nil}
+use Rattle.block_disk.specs.DiskState.{DiskState, Files, Leaves}
+use Rattle.block_disk.specs.Claims.{LeavesOnly, Beside, Quiet}
+use Rattle.block_disk.proofs.Moments.{by_quiet}
+use Rattle.gate_mark.specs.Mark.{IsKept, MayHold}
+use Rattle.flat_image.specs.declared.act.Act.{Act}
+use Rattle.flat_image.specs.declared.act.Act.TheVariants.{Flush, Fault}
+use Rattle.flat_image.specs.declared.act.Asked.TheVariants.{Nothing}
+use Rattle.flat_image.specs.declared.base.Base.{Base}
+use Rattle.flat_image.specs.Entries.{entry}
+use Rattle.flat_image.specs.History.{History, now, step, keeps, is_fault, fault_count, Allowed, HasRoom, IsWithin}
+use Rattle.flat_image.specs.Left.{Stand, stand, put_top}
+use Rattle.flat_image.proofs.HistoryLaws.{now-entry, proper-entry, base-stays}
+use Rattle.top_writer.specs.Files.{TopFiles}
+use Rattle.top_writer.specs.declared.top.Top.{Top}
+use Rattle.top_writer.proofs.Going.{KnowsNow, going_started, fits_quiet}
+use Rattle.top_writer.specs.Fitting.{TopGoes}
+use Rattle.top_writer.specs.Showing.{ShowsOne}
+use Rattle.top_writer.specs.Stands.{unchanged, as_before, just_this, this_too}
+use Rattle.top_writer.specs.View.{view_of, epoch_of, sectors_of, sequence_of}
+use Rattle.image_core.specs.declared.parts.Parts.{Parts}
+use Rattle.image_core.specs.Numbers.{manifest_file}
+use Rattle.image_core.specs.Shows as shows
+use Rattle.image_core.specs.View.{AreLayersOf}
+use Rattle.image_core.specs.Pieces.{IsSnapshotOf}
+use Rattle.image_core.specs.FileSets.{FilesFit}
+use Rattle.image_core.specs.Standing.{ShowsLeft}
+use Rattle.image_core.specs.MayBe.{ShowsMayBe, KeptStand, BlamedFor}
+use Rattle.image_core.specs.Parts.{PartsFit, ImageStands, Goes}
+use Rattle.image_core.proofs.FilesShown.{files-shown}
+use Rattle.image_core.proofs.Lifts.{left-of, kept-more, kept-one, kept-too, fault-entry, fault-more}
+use Rattle.image_core.proofs.PartsHold.{top-room, files-fit}
+
+-- the same but for the top and the steps
+pub record IsSameBesides (p q : Parts) : Type 0 where
+  pub manifest : q.manifest ≡ p.manifest
+  pub lowers : q.lowers ≡ p.lowers
+  pub snapshot : q.snapshot ≡ p.snapshot
+
+pub not-manifest : (epoch f : ℕ) → f ≡ manifest_file → TopFiles epoch f → ⊥
+not-manifest epoch f is (inl data_is) = omega (arith, is, data_is)
+not-manifest epoch f is (inr (inl index_is)) = omega (arith, is, index_is)
+not-manifest epoch f is (inr (inr mark_is)) = omega (arith, is, mark_is)
+
+module _ (tells : Bool) (old new : DiskState) (p q : Parts) (becomes : Stand → Stand) (leaves : Stand → List Stand → List Stand) (same : IsSameBesides p q)
+    (goes : TopGoes tells old new p.top q.top becomes leaves) where
+  -- what the image is after a call on its top
+  fits-after : (b : Base) (tops : List Stand) → PartsFit tells old p b tops → PartsFit tells new q (put_top b (becomes (stand b))) (leaves (stand b) tops)
+  fits-after b tops fit =
+      let parent : Option (List ℕ) = shows.parent_asked (shows.epoch_of b) b.lowers in
+      let others = (goes.any_moment b.sectors parent (stand b) tops fit.top).others in
+      let kept : IsKept new p.manifest = λ file left. fit.manifest file (others.left p.manifest.file file (not-manifest (epoch_of p.top) p.manifest.file fit.manifest_is) left) in
+      record {
+        sound = record { size = fit.sound.size; few = fit.sound.few; stack = fit.sound.stack; unlike = fit.sound.unlike };
+        none_done = fit.none_done;
+        none_frozen = fit.none_frozen;
+        manifest_is = ap (λ m. m.file) same.manifest ∙ fit.manifest_is;
+        manifest = subst (IsKept new) (sym same.manifest) kept;
+        named = λ body may. fit.named body (subst (λ m. MayHold m body) same.manifest may);
+        lowers = subst (AreLayersOf b.lowers) (sym same.lowers) fit.lowers;
+        snapshot = let one = same.snapshot in let two = same.lowers in subst (λ l. IsSnapshotOf (arc_value q.snapshot) l []) (sym two)
+            (subst (λ s. IsSnapshotOf (arc_value s) p.lowers []) (sym one) fit.snapshot);
+        epoch = goes.epoch ∙ fit.epoch;
+        top = goes.fits b.sectors parent (stand b) tops fit.top;
+      }
+
+  -- and what a crash leaves at each moment of it
+  moment : (faults : ℕ) (base : Base) (history : History) → ImageStands tells old faults p base history → LeavesOnly old new (λ (u : Unit {0}) (files : Files). ShowsLeft base history files)
+  moment faults base history stands =
+      let b : Base = now base history in
+      let parent : Option (List ℕ) = shows.parent_asked (shows.epoch_of b) b.lowers in
+      let may : List Stand = stand b ∷ stands.tops in
+      let run = goes.any_moment b.sectors parent (stand b) stands.tops stands.fits.top in
+      let good = base-stays base history stands.base_is stands.few stands.proper in
+      let left : (files : Files) → Beside (TopFiles (epoch_of p.top)) old (ShowsOne (epoch_of p.top) b.sectors parent may) files → ShowsLeft base history files =
+      λ files beside.
+      let fits : FilesFit b may [] files =
+      files-fit tells old p b stands.tops stands.fits may files (beside.others manifest_file (not-manifest (epoch_of p.top) manifest_file refl))
+      (subst (λ e. ShowsOne e b.sectors parent may files) stands.fits.epoch beside.has) in
+      let shown : ShowsMayBe b may [] files = files-shown b may [] files good.0 good.1 stands.fits.sound fits in
+      record {
+        found = shown.found;
+        shows = shown.shows;
+        left = left-of base history may [] shown.found (kept-too base history (stand b) stands.tops refl stands.kept) (All-nil (BlamedFor history)) shown.may_be;
+      }
+      in record {
+        later = run.leaves.later;
+        past = run.leaves.past;
+        each = λ k from to. let at_k = run.leaves.each k from to in (tt, λ files at_it. left files (at_k.1 files at_it));
+      }
+
+-- a call that notes an act
+pub goes-noted : (tells : Bool) (old new : DiskState) (faults later : ℕ) (p q : Parts) (becomes : Stand → Stand) (leaves : Stand → List Stand → List Stand) (act : Act)
+    → IsSameBesides p q → q.steps ≡ p.steps + 1 → TopGoes tells old new p.top q.top becomes leaves
+    → ((b : Base) → step b act ≡ put_top b (becomes (stand b)))
+    → ((b : Base) → sectors_of p.top ≡ b.sectors → Allowed b act)
+    → ((base : Base) (history : History) (number : ℕ) → base.faults + fault_count history ≤ faults → base.faults + fault_count (history ++ entry number act ∷ []) ≤ later)
+    → ((base : Base) (history : History) (number : ℕ) (tops : List Stand) → All (KeptStand base history) tops
+    → All (KeptStand base (history ++ entry number act ∷ [])) (leaves (stand (now base history)) tops))
+    → Goes tells old new faults later p q (Some act)
+goes-noted tells old new faults later p q becomes leaves act same steps goes is allowed counts keeping = record {
+  stands = λ base history number k.
+      let b : Base = now base history in
+      let made : Base = put_top b (becomes (stand b)) in
+      let parent : Option (List ℕ) = shows.parent_asked (shows.epoch_of b) b.lowers in
+      let after : PartsFit tells new q made (leaves (stand b) k.tops) = fits-after tells old new p q becomes leaves same goes b k.tops k.fits in
+      let room : HasRoom made.rows made.filled = top-room tells new b.sectors parent (view_of q.top) (becomes (stand b)) (leaves (stand b) k.tops) after.top in
+      record {
+        base_is = k.base_is;
+        few = k.few;
+        proper = proper-entry base history number act k.proper (allowed b k.fits.top.holds.sectors) (subst (λ (c : Base). HasRoom c.rows c.filled) (sym (is b)) room);
+        failed = counts base history number k.failed;
+        steps = steps ∙ (let e : p.steps + 1 ≡ length (history ++ entry number act ∷ []) = omega (arith, k.steps, length-append history (entry number act ∷ [])) in e);
+        low = omega (arith, goes.sequence, k.low, steps);
+        tops = leaves (stand b) k.tops;
+        fits = subst (λ (c : Base). PartsFit tells new q c (leaves (stand b) k.tops)) (sym (now-entry base history number act ∙ is b)) after;
+        kept = keeping base history number k.tops k.kept;
+      };
+  any_moment = λ base history k. moment tells old new p q becomes leaves same goes faults base history k;
+}
+
+-- a call that was refused
+pub goes-refused : (tells : Bool) (old new : DiskState) (faults later : ℕ) (p q : Parts) → IsSameBesides p q → q.steps ≡ p.steps → sequence_of q.top ≡ sequence_of p.top
+    → faults ≤ later → TopGoes tells old new p.top q.top unchanged as_before → Goes tells old new faults later p q None
+goes-refused tells old new faults later p q same steps sequence rise goes = record {
+  stands = λ base history number k. record {
+    base_is = k.base_is;
+    few = k.few;
+    proper = k.proper;
+    failed = omega (arith, k.failed, rise);
+    steps = steps ∙ k.steps;
+    low = omega (arith, sequence, k.low, steps);
+    tops = k.tops;
+    fits = fits-after tells old new p q unchanged as_before same goes (now base history) k.tops k.fits;
+    kept = k.kept;
+  };
+  any_moment = λ base history k. moment tells old new p q unchanged as_before same goes faults base history k;
+}
+
+-- how many faults there are with one act more
+pub counts-clean : (faults later : ℕ) (act : Act) → is_fault act ≡ false → faults ≤ later → (base : Base) (history : History) (number : ℕ)
+    → base.faults + fault_count history ≤ faults → base.faults + fault_count (history ++ entry number act ∷ []) ≤ later
+counts-clean faults later act clean rise base history number before = omega (arith, before, rise, fault-entry history number act clean)
+
+pub counts-fault : (faults later : ℕ) → faults + 1 ≤ later → (base : Base) (history : History) (number : ℕ)
+    → base.faults + fault_count history ≤ faults → base.faults + fault_count (history ++ entry number (Fault Nothing) ∷ []) ≤ later
+counts-fault faults later rise base history number before = omega (arith, before, rise, fault-more history number Nothing)
+
+-- tops that the history keeps, after a change or a fault, after a flush, and after one that failed
+pub keeps-before : (act : Act) → keeps act ≡ false → (base : Base) (history : History) (number : ℕ) (tops : List Stand) → All (KeptStand base history) tops
+    → All (KeptStand base (history ++ entry number act ∷ [])) (as_before (stand (now base history)) tops)
+keeps-before act is base history number tops kept = kept-more base history tops number act is kept
+
+pub keeps-flushed : (base : Base) (history : History) (number : ℕ) (tops : List Stand) → All (KeptStand base history) tops
+    → All (KeptStand base (history ++ entry number Flush ∷ [])) (just_this (stand (now base history)) tops)
+keeps-flushed base history number tops kept =
+    kept-one base (history ++ entry number Flush ∷ []) (stand (now base history)) (ap stand (sym (now-entry base history number Flush)))
+
+pub keeps-unflushed : (base : Base) (history : History) (number : ℕ) (tops : List Stand) → All (KeptStand base history) tops
+    → All (KeptStand base (history ++ entry number (Fault Nothing) ∷ [])) (this_too (stand (now base history)) tops)
+keeps-unflushed base history number tops kept =
+    let h : History = history ++ entry number (Fault Nothing) ∷ [] in
+    kept-too base h (stand (now base history)) tops (ap stand (sym (now-entry base history number (Fault Nothing)))) (kept-more base history tops number (Fault Nothing) refl kept)
+
+-- whole sectors of an extent within the image may be written
+pub within-write : (n at count : ℕ) (bytes : List ℕ) → length bytes ≡ 512 * count → at + count ≤ n → IsWithin n at bytes
+within-write n at count bytes size within = record { whole = omega (arith, size); within = omega (arith, size, within) }
+
+-- calls that change nothing, as a call on a top
+pub quiet-goes : (tells : Bool) (old new : DiskState) (top : Top) → KnowsNow old → ((files : Files) → Leaves old files → old.left_at old.moment files)
+    → Quiet old new → TopGoes tells old new top top unchanged as_before
+quiet-goes tells old new top now_at at_now quiet = record {
+  epoch = refl;
+  sectors = refl;
+  sequence = omega arith;
+  fits = λ n parent s may fits. fits_quiet tells old new n parent top s may quiet fits;
+  any_moment = λ n parent s may fits.
+      by_quiet (TopFiles (epoch_of top)) old old new (λ (u : Unit {0}) (files : Files). ShowsOne (epoch_of top) n parent (s ∷ may) files)
+      (going_started tells old n parent (view_of top) s may now_at fits) quiet at_now;
+}

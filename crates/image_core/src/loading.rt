@@ -1,0 +1,200 @@
+//! Loading an image without commits.
+ghost use Rattle.std.specs.Prelude.{◌≡◌, ℕ, ◌^◌, ◌<◌, ◌≤◌, ◌↔◌, List, [], length, map, IsTrue, IfOk, IfErr, OnOk, IfSome, IfNone, IsErrOf};
+ghost use Rattle.block_disk.specs.Claims.{Quiet};
+ghost use Rattle.gate_mark.specs.Mark.{file_of, sequence_in, body_in, IsKept, MayHold};
+ghost use Rattle.sealed_layer.specs.Layers.{LayerIndex};
+ghost use Rattle.image_core.specs.declared.loading.LoadFault.TheVariants as why;
+ghost use Rattle.image_core.specs.Numbers.{manifest_file};
+ghost use Rattle.image_core.specs.Manifest.{size_said, count_said, epoch_said, uuid_said};
+ghost use Rattle.image_core.specs.View.{AreLayersOf};
+ghost use Rattle.image_core.specs.Parts.{IsLoaded};
+ghost use Rattle.image_core.specs.Loading.{heads_in, IsBareBody, HasManifest, HaveSize, AreStackOrNone, IsLowersReason, IsLoadReason};
+
+use crate::creating::{parent_of, snapshot_of};
+use crate::parts::{LayerList, Parts};
+use block_disk::Disk;
+use byte_fields::FieldReader;
+use gate_mark::{Mark, MarkFault};
+use layer_stack::{StackFault, check};
+use lsmt_header::Head;
+use sealed_layer::Layer;
+use sector_extent::Memory;
+use std::alloc::Global;
+use top_writer::{Top, TopFault, TopReason};
+
+/// The number of the manifest.
+const MANIFEST: u32 = 0;
+
+/// The most sectors of an image.
+const MOST_SECTORS: u64 = 1 << 31;
+
+/// Why an image was not loaded: the first of these that holds, but for the disk's fault and want of
+/// memory, which may come before.
+#[derive(Clone, Copy, Debug, PartialEq, Eq)]
+pub enum LoadFault {
+    /// There was no memory.
+    Memory,
+    /// The disk failed.
+    Failed,
+    /// The manifest holds no mark.
+    NoImage,
+    /// Its sequence is this one, over 2^61.
+    ManifestWorn(u64),
+    /// It says something else than an image without commits, of 1 to 2^31 sectors.
+    ManifestBad,
+    /// A lower layer has other sectors than the manifest says.
+    SizeDiffers,
+    /// The lower layers form no stack.
+    Stack(StackFault),
+    /// The files of the top of that epoch are none.
+    NoTop { epoch: u32, reason: TopReason },
+}
+
+// The mark of the manifest.
+fn load_manifest<D: Disk>(disk: &mut D) -> Result<Mark, LoadFault>
+    ensures mark { IfOk result (λ m. (file_of m ≡ manifest_file) × (sequence_in m ≤ 2 ^ 61)) }
+    ensures bodies { IfOk result (λ m. (b : List ℕ) → MayHold m b → b ≡ body_in m) }
+    ensures kept { IfOk result (IsKept (D.state disk.new)) }
+    ensures shows { IfOk result (λ m. IsTrue D.tells → HasManifest (D.state disk.old).seen (body_in m)) }
+    ensures reason { IfErr result (λ fault. IsTrue D.tells → (layers : List LayerIndex) → IsLoadReason (D.state disk.old).seen layers fault) }
+    ensures quiet { Quiet (D.state disk.old) (D.state disk.new) }
+    ensures failed { IsErrOf result why.Failed → D.faults disk.old < D.faults disk.new }
+    ensures later { D.faults disk.old ≤ D.faults disk.new }
+{
+    match Mark::load(disk, MANIFEST) {
+        Ok(mark) => Ok(mark),
+        Err(MarkFault::NoMark) => Err(LoadFault::NoImage),
+        Err(MarkFault::Worn(sequence)) => Err(LoadFault::ManifestWorn(sequence)),
+        Err(MarkFault::Failed) => Err(LoadFault::Failed),
+    }
+}
+
+// What the body of a manifest says.
+#[derive(Clone, Copy)]
+struct Said {
+    count: u64,
+    epoch: u64,
+    uuid: [u8; 16],
+    sectors: u64,
+}
+
+fn said_in(body: &[u8; 48]) -> Said
+    ensures count { result.count ≡ count_said body.now }
+    ensures epoch { result.epoch ≡ epoch_said body.now }
+    ensures uuid { result.uuid ≡ uuid_said body.now }
+    ensures sectors { result.sectors ≡ size_said body.now }
+{
+    let mut fields = FieldReader::new(body);
+    let count = fields.take_u64_le();
+    let epoch = fields.take_u64_le();
+    let uuid = *fields.take_bytes();
+    let sectors = fields.take_u64_le();
+    Said {
+        count,
+        epoch,
+        uuid,
+        sectors,
+    }
+}
+
+// The sectors that the body of a manifest says, where it is one of an image without commits.
+fn bare_size(body: &[u8; 48]) -> Option<u64>
+    ensures some { IfSome result (λ n. IsBareBody body.now × (n ≡ size_said body.now)) }
+    ensures none { IfNone result (¬ IsBareBody body.now) }
+{
+    let said = said_in(body);
+    if said.count != 0 || said.epoch != 0 {
+        return None;
+    }
+    if said.uuid != [0; 16] {
+        return None;
+    }
+    if said.sectors == 0 || said.sectors > MOST_SECTORS {
+        return None;
+    }
+    Some(said.sectors)
+}
+
+// All layers have so many sectors.
+fn have_size(layers: &[Layer], sectors: u64) -> bool
+    ensures { IsTrue result ↔ HaveSize sectors layers.now }
+{
+    for layer in layers {
+        if layer.head().sectors != sectors {
+            return false;
+        }
+    }
+    true
+}
+
+// The heads of layers.
+fn heads_of(alloc: Global, layers: &[Layer]) -> Result<Vec<Head>, Memory>
+    ensures { IfOk result (λ heads. heads.items ≡ heads_in layers.now) }
+{
+    let mut heads = Vec::with_capacity(alloc, layers.len())?;
+    for layer in layers {
+        heads.push(*layer.head())?;
+    }
+    Ok(heads)
+}
+
+// Refuses lower layers that are no stack of so many sectors.
+fn check_lowers(alloc: Global, layers: &[Layer], sectors: u64) -> Result<(), LoadFault>
+    requires few { length layers.now ≤ 255 }
+    ensures ok { OnOk result (HaveSize sectors layers.now × AreStackOrNone layers.now) }
+    ensures reason { IfErr result (IsLowersReason sectors layers.now) }
+{
+    if !have_size(layers, sectors) {
+        return Err(LoadFault::SizeDiffers);
+    }
+    if layers.is_empty() {
+        return Ok(());
+    }
+    let Ok(heads) = heads_of(alloc, layers) else {
+        return Err(LoadFault::Memory);
+    };
+    match check(heads.as_slice()) {
+        Ok(()) => Ok(()),
+        Err(fault) => Err(LoadFault::Stack(fault)),
+    }
+}
+
+impl Parts {
+    // Reads an image without commits over lower layers, after a sync of its files. It changes nothing.
+    pub(crate) fn load<D: Disk>(
+        alloc: Global,
+        disk: &mut D,
+        lowers: LayerList,
+    ) -> Result<Parts, LoadFault>
+        requires few { length lowers ≤ 255 }
+        ensures stands { IfOk result (λ parts. (files : List (List ℕ)) → AreLayersOf files lowers
+            → IsLoaded D.tells (D.state disk.old) (D.state disk.new) (D.faults disk.new) files parts) }
+        ensures reason { IfErr result (λ fault. IsTrue D.tells → IsLoadReason (D.state disk.old).seen lowers fault) }
+        ensures quiet { Quiet (D.state disk.old) (D.state disk.new) }
+        ensures failed { IsErrOf result why.Failed → D.faults disk.old < D.faults disk.new }
+        ensures later { D.faults disk.old ≤ D.faults disk.new }
+    {
+        let manifest = load_manifest(disk)?;
+        let Some(sectors) = bare_size(&manifest.get()) else {
+            return Err(LoadFault::ManifestBad);
+        };
+        check_lowers(alloc, lowers.as_slice(), sectors)?;
+        let parent = parent_of(lowers.as_slice());
+        let top = match Top::load(alloc, disk, 0, sectors, Some(parent)) {
+            Ok(top) => top,
+            Err(TopFault::Memory) => return Err(LoadFault::Memory),
+            Err(TopFault::Failed) => return Err(LoadFault::Failed),
+            Err(TopFault::NoTop(reason)) => return Err(LoadFault::NoTop { epoch: 0, reason }),
+        };
+        let Ok(snapshot) = snapshot_of(alloc, lowers.as_slice()) else {
+            return Err(LoadFault::Memory);
+        };
+        Ok(Parts {
+            manifest,
+            lowers,
+            snapshot,
+            top,
+            steps: 0,
+        })
+    }
+}
