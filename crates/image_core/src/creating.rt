@@ -91,6 +91,8 @@ impl Parts {
         ensures exists { IsTrue D.tells → TellsExists ((D.state disk.old).seen manifest_file) result }
         ensures failed { IsErrOf result faults.Failed → D.faults disk.old < D.faults disk.new }
         ensures later { D.faults disk.old ≤ D.faults disk.new }
+        ensures untouched { IsErrOf result faults.Exists → Quiet (D.state disk.old) (D.state disk.new) }
+        ensures unbegun { IsErrOf result faults.Memory → Quiet (D.state disk.old) (D.state disk.new) }
     {
         check_new(disk)?;
         let Ok(snapshot) = snapshot_of(alloc, lowers.as_slice()) else {

@@ -69,6 +69,8 @@ impl<D: Disk> Image<D> {
         ensures always { IsTrue D.tells → mark_of ((D.state disk).seen manifest_file) ≢ None → IfErr result (λ refusal. (refusal.1 ≡ faults.Exists) ⊎ (refusal.1 ≡ faults.Failed)) }
         ensures failed { IfErr result (λ refusal. refusal.1 ≡ faults.Failed → D.faults disk < D.faults refusal.0) }
         ensures later { MatchResult result (λ image. D.faults disk ≤ D.faults image.disk) (λ refusal. D.faults disk ≤ D.faults refusal.0) }
+        ensures untouched { IfErr result (λ refusal. refusal.1 ≡ faults.Exists → Quiet (D.state disk) (D.state refusal.0)) }
+        ensures unbegun { IfErr result (λ refusal. refusal.1 ≡ faults.Memory → Quiet (D.state disk) (D.state refusal.0)) }
     {
         let mut disk = disk;
         match Parts::create(alloc, &mut disk, lowers, sectors) {
