@@ -13,4 +13,6 @@ pub mod ShownBase
 pub mod StackMore
 pub mod StandLaws
 pub mod StepGoes
+pub mod StepLists
+pub mod StepReplies
 pub mod TopShown

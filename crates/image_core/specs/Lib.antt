@@ -12,4 +12,5 @@ pub mod Pieces
 pub mod Planning
 pub mod Shows
 pub mod Standing
+pub mod Steps
 pub mod View

@@ -10,6 +10,7 @@ mod manifest;
 mod parts;
 mod snapshot;
 mod status;
+mod steps;
 
 pub use creating::CreateFault;
 pub use image::Image;
@@ -18,6 +19,7 @@ pub use loading::LoadFault;
 pub use parts::LayerList;
 pub use snapshot::Snapshot;
 pub use status::Status;
+pub use steps::{Numbered, Reply, ReplyList, Step, StepList, run_steps};
 
 #[cfg(test)]
 mod tests;

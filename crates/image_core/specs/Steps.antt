@@ -1,0 +1,124 @@
+-- Lists of steps of an image: when they may be asked for, what they note, and what their replies say.
+use Rattle.std.specs.Prelude.{◌≡◌, ℕ, ◌+◌, ◌*◌, ◌≤◌, ◌↔◌, List, [], ◌∷◌, ◌++◌, length, drop, replicate, All, Bool, IsTrue, Option, Some, None, Result, Err, OnOk, IsErrOf, ⊤}
+use Rattle.block_disk.specs.DiskState.{DiskState, Files}
+use Rattle.block_disk.specs.Claims.{LeavesOnly}
+use Rattle.sector_extent.specs.declared.extent.Extent.{Extent}
+use Rattle.sector_extent.specs.Rows.{rows_for}
+use Rattle.flat_image.specs.declared.act.Act.{Act}
+use Rattle.flat_image.specs.declared.act.Act.TheVariants as acts
+use Rattle.flat_image.specs.declared.base.Base.{Base}
+use Rattle.flat_image.specs.Sheets.{Cell}
+use Rattle.flat_image.specs.Base.{pending_of}
+use Rattle.flat_image.specs.Entries.{entry}
+use Rattle.flat_image.specs.History.{History, now, fault_count, IsOver}
+use Rattle.top_writer.specs.declared.fault.WriteFault.{WriteFault}
+use Rattle.top_writer.specs.declared.fault.WriteFault.TheVariants.{Full, Failed}
+use Rattle.top_writer.specs.declared.fault.ReadFault.{ReadFault}
+use Rattle.top_writer.specs.Gaps.{Paints, IsHole, AreGaps}
+use Rattle.image_core.specs.declared.parts.Parts.{Parts}
+use Rattle.image_core.specs.declared.status.Status as statuses
+use Rattle.image_core.specs.declared.steps.Step.{Step}
+use Rattle.image_core.specs.declared.steps.Step.TheVariants.{Plan, Write, Zero, Flush, Status}
+use Rattle.image_core.specs.declared.steps.Numbered.{Numbered}
+use Rattle.image_core.specs.declared.steps.Reply.{Reply}
+use Rattle.image_core.specs.declared.steps.Reply.TheVariants.{Planned, Wrote, Zeroed, Flushed, Now}
+use Rattle.image_core.specs.Standing.{ShowsLeft}
+use Rattle.image_core.specs.Parts.{ImageStands, Goes, noted_change, noted_call, noted_read}
+
+-- the step may be asked for of an image of n sectors
+abbrev pub MayStep : ℕ → Step → Type 0
+MayStep n (Plan e) = e.at + e.count ≤ n
+MayStep n (Write e bytes) = (length bytes ≡ 512 * e.count) × (e.at + e.count ≤ n)
+MayStep n (Zero e) = e.at + e.count ≤ n
+MayStep n Flush = ⊤
+MayStep n Status = ⊤
+
+-- and so may each step of the list
+abbrev pub MayRun : ℕ → List Numbered → Type 0
+MayRun n list = All (λ s. MayStep n s.step) list
+
+-- what a step notes with that reply: its act where it is done, a fault where the disk failed, and else nothing
+abbrev pub noted_with : Step → Reply → Option Act
+noted_with (Plan e) (Planned outcome bytes gaps) = noted_read (acts.Read e.at e.count) outcome
+noted_with (Write e bytes) (Wrote outcome) = noted_change (acts.Write e.at bytes) outcome
+noted_with (Zero e) (Zeroed outcome) = noted_change (acts.Zero e.at e.count) outcome
+noted_with Flush (Flushed outcome) = noted_call acts.Flush outcome
+noted_with step reply = None
+
+-- the entry of an act, or none
+abbrev pub noted_as : ℕ → Option Act → History
+noted_as number None = []
+noted_as number (Some act) = entry number act ∷ []
+
+-- what the steps of a list note that got these replies, each under its number
+abbrev pub noted_by : List Numbered → List Reply → History
+noted_by [] replies = []
+noted_by (s ∷ list) [] = []
+noted_by (s ∷ list) (reply ∷ replies) = noted_as s.number (noted_with s.step reply) ++ noted_by list replies
+
+-- A change of a top that has used so much, and then would have used that: it is refused as being full just where that is
+-- over what a top may have, and the refusal says what it has.
+pub record IsRefusedFull {T : Type 0} (rows filled more_rows more_filled : ℕ) (outcome : Result T WriteFault) : Type 0 where
+  pub just : IsOver more_rows more_filled ↔ (outcome ≡ Err (Full rows filled))
+  pub only : (r f : ℕ) → outcome ≡ Err (Full r f) → (r ≡ rows) × (f ≡ filled)
+
+-- what a plan replies of a top: bytes of the extent, zeros with what the top paints over them where it was read, and the
+-- top's holes as gaps
+pub record IsPlanReply {T : Type 0} (tells : Bool) (top : List Cell) (e : Extent) (outcome : Result T ReadFault) (bytes : List ℕ) (gaps : List Extent) : Type 0 where
+  pub size : length bytes ≡ 512 * e.count
+  pub read : OnOk outcome (IsTrue tells → Paints top e.at e.count (replicate {A = ℕ} (512 * e.count) 0) bytes)
+  pub holes : OnOk outcome (AreGaps (IsHole top) e.at (e.at + e.count) gaps)
+
+-- what a status says of an image that is made of b
+pub record IsTold (b : Base) (s : statuses.Status) : Type 0 where
+  pub sectors : s.sectors ≡ b.sectors
+  pub layers : s.layers ≡ length b.lowers + length b.done
+  pub pending : s.pending ≡ pending_of b.frozen
+
+-- what a step may reply of an image that is made of b
+abbrev pub IsReply : Bool → Base → Step → Reply → Type 0
+IsReply tells b (Plan e) (Planned outcome bytes gaps) = IsPlanReply tells b.top e outcome bytes gaps
+IsReply tells b (Write e bytes) (Wrote outcome) = IsRefusedFull b.rows b.filled (b.rows + rows_for e.count) (b.filled + e.count) outcome
+IsReply tells b (Zero e) (Zeroed outcome) =
+    IsRefusedFull b.rows b.filled (b.rows + rows_for e.count) b.filled outcome × (IsErrOf outcome Failed → ⊥)
+IsReply tells b Flush (Flushed outcome) = ⊤
+IsReply tells b Status (Now s) = IsTold b s
+IsReply tells b step reply = ⊥
+
+-- the replies are those of the first steps of the list, each of the image as it is made of the base by the history and by
+-- what the steps before it noted
+abbrev pub AreReplies : Bool → Base → History → List Numbered → List Reply → Type 0
+AreReplies tells base history [] [] = ⊤
+AreReplies tells base history [] (reply ∷ replies) = ⊥
+AreReplies tells base history (s ∷ list) [] = ⊤
+AreReplies tells base history (s ∷ list) (reply ∷ replies) =
+    IsReply tells (now base history) s.step reply
+    × AreReplies tells base (history ++ noted_as s.number (noted_with s.step reply)) list replies
+
+-- a beginning of what is noted
+pub record Beginning (noted : History) : Type 0 where
+  pub front : History
+  pub rest : History
+  pub splits : noted ≡ front ++ rest
+
+-- Steps that note these entries. Whatever the image stood for, it stands then for the history with them behind it. At
+-- each moment a crash leaves what that history leaves with some beginning of them. Each fault that is noted is one that
+-- the disk counted.
+pub record GoesBy (tells : Bool) (old new : DiskState) (faults later : ℕ) (p q : Parts) (noted : History) : Type 0 where
+  pub stands : (base : Base) (history : History) → ImageStands tells old faults p base history
+      → ImageStands tells new later q base (history ++ noted)
+  pub any_moment : (base : Base) (history : History) → ImageStands tells old faults p base history
+      → LeavesOnly old new (λ (b : Beginning noted) (files : Files). ShowsLeft base (history ++ b.front) files)
+  pub failed : faults + fault_count noted ≤ later
+
+-- the replies that were added behind the old ones
+abbrev pub added : List Reply → List Reply → List Reply
+added old new = drop (length old) new
+
+-- one step that is made, and its reply behind the old ones
+pub record Makes (tells : Bool) (old new : DiskState) (faults later : ℕ) (p q : Parts) (s : Numbered) (before after : List Reply) : Type 0 where
+  pub reply : Reply
+  pub behind : after ≡ before ++ reply ∷ []
+  pub goes : Goes tells old new faults later p q (noted_with s.step reply)
+  pub right : (base : Base) (history : History) → ImageStands tells old faults p base history → IsReply tells (now base history) s.step reply
+  pub failed : (number : ℕ) → faults + fault_count (noted_as number (noted_with s.step reply)) ≤ later

@@ -1,0 +1,176 @@
+//! Lists of steps of an image, made one after another.
+ghost use Rattle.std.specs.Prelude.{◌≡◌, ℕ, ◌+◌, ◌*◌, ◌^◌, ◌<◌, ◌≤◌, List, ◌∷◌, ◌++◌, length, drop, IfOk, OnOk, OnErr, MatchResult};
+ghost use Rattle.flat_image.specs.declared.base.Base as bases;
+ghost use Rattle.flat_image.specs.History.{History, now, fault_count};
+ghost use Rattle.image_core.specs.Parts.{parts_view, ImageStands, IsStanding, Goes};
+ghost use Rattle.image_core.specs.Steps.{MayStep, MayRun, noted_with, noted_as, noted_by, IsReply, AreReplies, GoesBy, added, Makes};
+
+use crate::image::Image;
+use crate::status::Status;
+use block_disk::{Disk, DiskFailed};
+use flat_image::Stands;
+use sector_extent::{Bytes, Extent, GapList, ListOf, Memory};
+use std::alloc::Global;
+use std::mem::replace;
+use top_writer::{ReadFault, WriteFault};
+
+/// A step of an image.
+#[derive(Debug, Drop)]
+pub enum Step {
+    /// The top's part of a read.
+    Plan(Extent),
+    /// A write of these sectors.
+    Write(Extent, Bytes),
+    /// Zeros for these sectors.
+    Zero(Extent),
+    /// All that was written and zeroed is put onto the disk.
+    Flush,
+    /// What the image says of itself.
+    Status,
+}
+
+/// A step with its caller's number.
+#[derive(Debug, Drop)]
+pub struct Numbered {
+    pub number: u32,
+    pub step: Step,
+}
+
+/// Steps in order.
+pub type StepList = ListOf<Numbered>;
+
+/// What a step answered.
+#[derive(Debug, Drop)]
+pub enum Reply {
+    /// The sectors of the extent, in which the top's are put over zeros, and the others as gaps.
+    Planned {
+        outcome: Result<(), ReadFault>,
+        bytes: Bytes,
+        gaps: GapList,
+    },
+    Wrote(Result<(), WriteFault>),
+    Zeroed(Result<(), WriteFault>),
+    Flushed(Result<(), DiskFailed>),
+    Now(Status),
+}
+
+/// Replies in order.
+pub type ReplyList = ListOf<Reply>;
+
+// The reply to a plan.
+fn planned(outcome: Result<(), ReadFault>, bytes: Vec<u8>, gaps: GapList) -> Reply
+    ensures { result ≡ Reply.Planned outcome bytes.items gaps }
+{
+    Reply::Planned {
+        outcome,
+        bytes: Bytes::from_vec(bytes),
+        gaps,
+    }
+}
+
+// The plan of an extent into bytes that are made for it.
+fn plan_step<D: Disk>(alloc: Global, image: &mut Image<D>, extent: Extent) -> Result<Reply, Memory>
+    requires standing { IsStanding D.tells (D.state image.old.disk) (D.faults image.old.disk) image.old.parts }
+    requires within { extent.at + extent.count ≤ (parts_view image.old.parts).sectors }
+    requires steps { (parts_view image.old.parts).steps < 2 ^ 62 }
+    ensures goes { IfOk result (λ reply. Goes D.tells (D.state image.old.disk) (D.state image.new.disk) (D.faults image.old.disk) (D.faults image.new.disk) image.old.parts image.new.parts (noted_with (Step.Plan extent) reply)) }
+    ensures reply { IfOk result (λ reply. (base : bases.Base) (history : History)
+        → ImageStands D.tells (D.state image.old.disk) (D.faults image.old.disk) image.old.parts base history → IsReply D.tells (now base history) (Step.Plan extent) reply) }
+    ensures failed { IfOk result (λ reply. (number : ℕ) → D.faults image.old.disk + fault_count (noted_as number (noted_with (Step.Plan extent) reply)) ≤ D.faults image.new.disk) }
+    ensures err { OnErr result (image.new ≡ image.old) }
+{
+    let mut bytes = vec![in alloc; 0; 512 * extent.count as usize]?;
+    let mut gaps = GapList::from_vec(Vec::new(alloc));
+    match image.plan(alloc, extent, bytes.as_mut_slice(), &mut gaps) {
+        Ok(_) => Ok(planned(Ok(()), bytes, gaps)),
+        Err(fault) => Ok(planned(Err(fault), bytes, gaps)),
+    }
+}
+
+// Makes a step. Without memory for its reply it is not made.
+fn make_step<D: Disk>(alloc: Global, image: &mut Image<D>, step: &Step) -> Result<Reply, Memory>
+    requires standing { IsStanding D.tells (D.state image.old.disk) (D.faults image.old.disk) image.old.parts }
+    requires may { MayStep (parts_view image.old.parts).sectors step.now }
+    requires steps { (parts_view image.old.parts).steps < 2 ^ 62 }
+    ensures goes { IfOk result (λ reply. Goes D.tells (D.state image.old.disk) (D.state image.new.disk) (D.faults image.old.disk) (D.faults image.new.disk) image.old.parts image.new.parts (noted_with step.now reply)) }
+    ensures reply { IfOk result (λ reply. (base : bases.Base) (history : History)
+        → ImageStands D.tells (D.state image.old.disk) (D.faults image.old.disk) image.old.parts base history → IsReply D.tells (now base history) step.now reply) }
+    ensures failed { IfOk result (λ reply. (number : ℕ) → D.faults image.old.disk + fault_count (noted_as number (noted_with step.now reply)) ≤ D.faults image.new.disk) }
+    ensures err { OnErr result (image.new ≡ image.old) }
+{
+    match step {
+        Step::Plan(extent) => plan_step(alloc, image, *extent),
+        Step::Write(extent, bytes) => Ok(Reply::Wrote(image.write(*extent, bytes.as_slice()))),
+        Step::Zero(extent) => Ok(Reply::Zeroed(image.zero(*extent))),
+        Step::Flush => Ok(Reply::Flushed(image.flush())),
+        Step::Status => Ok(Reply::Now(image.status())),
+    }
+}
+
+// Makes a step, and adds its reply. Without memory for these it does neither.
+fn make_next<D: Disk>(
+    alloc: Global,
+    image: &mut Image<D>,
+    numbered: &Numbered,
+    replies: &mut Vec<Reply>,
+) -> Result<(), Memory>
+    requires standing { IsStanding D.tells (D.state image.old.disk) (D.faults image.old.disk) image.old.parts }
+    requires may { MayStep (parts_view image.old.parts).sectors numbered.now.step }
+    requires steps { (parts_view image.old.parts).steps < 2 ^ 62 }
+    ensures ok { OnOk result (Makes D.tells (D.state image.old.disk) (D.state image.new.disk) (D.faults image.old.disk) (D.faults image.new.disk) image.old.parts image.new.parts numbered.now replies.old.items replies.new.items) }
+    ensures image { OnErr result (image.new ≡ image.old) }
+    ensures replies { OnErr result (replies.new.items ≡ replies.old.items) }
+{
+    replies.reserve(1)?;
+    let reply = make_step(alloc, image, &numbered.step)?;
+    replies.push_reserved(reply);
+    Ok(())
+}
+
+// Makes the steps in order.
+fn make_all<D: Disk>(
+    alloc: Global,
+    image: &mut Image<D>,
+    list: &[Numbered],
+    replies: &mut Vec<Reply>,
+) -> Result<(), Memory>
+    requires standing { IsStanding D.tells (D.state image.old.disk) (D.faults image.old.disk) image.old.parts }
+    requires may { MayRun (parts_view image.old.parts).sectors list.now }
+    requires steps { (parts_view image.old.parts).steps + length list.now ≤ 2 ^ 62 }
+    ensures replies { replies.new.items ≡ replies.old.items ++ added replies.old.items replies.new.items }
+    ensures all { OnOk result (length (added replies.old.items replies.new.items) ≡ length list.now) }
+    ensures some { OnErr result (length (added replies.old.items replies.new.items) < length list.now) }
+    ensures goes { GoesBy D.tells (D.state image.old.disk) (D.state image.new.disk) (D.faults image.old.disk) (D.faults image.new.disk) image.old.parts image.new.parts (noted_by list.now (added replies.old.items replies.new.items)) }
+    ensures right { (base : bases.Base) (history : History) → ImageStands D.tells (D.state image.old.disk) (D.faults image.old.disk) image.old.parts base history
+        → AreReplies D.tells base history list.now (added replies.old.items replies.new.items) }
+{
+    for numbered in list {
+        make_next(alloc, image, numbered, replies)?;
+    }
+    Ok(())
+}
+
+/// Makes the steps of a list in order, and adds a reply for each behind those that are there. A step
+/// that is refused, or that the disk fails in, has that as its reply, and the list goes on. Without
+/// memory for a plan's bytes or for a reply it stops before that step.
+pub fn run_steps<D: Disk>(
+    alloc: Global,
+    image: &mut Image<D>,
+    list: &StepList,
+    replies: &mut ReplyList,
+) -> Result<(), Memory>
+    requires standing { IsStanding D.tells (D.state image.old.disk) (D.faults image.old.disk) image.old.parts }
+    requires may { MayRun (parts_view image.old.parts).sectors list.now }
+    requires steps { (parts_view image.old.parts).steps + length list.now ≤ 2 ^ 62 }
+    ensures replies { replies.new ≡ replies.old ++ added replies.old replies.new }
+    ensures all { OnOk result (length (added replies.old replies.new) ≡ length list.now) }
+    ensures some { OnErr result (length (added replies.old replies.new) < length list.now) }
+    ensures goes { GoesBy D.tells (D.state image.old.disk) (D.state image.new.disk) (D.faults image.old.disk) (D.faults image.new.disk) image.old.parts image.new.parts (noted_by list.now (added replies.old replies.new)) }
+    ensures right { (base : bases.Base) (history : History) → ⟦<Image<D> as Stands>⟧.stands image.old base 0 history
+        → AreReplies D.tells base history list.now (added replies.old replies.new) }
+{
+    let mut taken = replace(replies, ReplyList::from_vec(Vec::new(alloc))).into_vec();
+    let outcome = make_all(alloc, image, list.as_slice(), &mut taken);
+    *replies = ReplyList::from_vec(taken);
+    outcome
+}
