@@ -1,10 +1,12 @@
 pub mod Created
 pub mod FilesShown
+pub mod FilledSectors
 pub mod Lifts
 pub mod Loaded
 pub mod ManifestBodies
 pub mod Named
 pub mod PartsHold
+pub mod PendingRuns
 pub mod PieceStands
 pub mod SheetsRead
 pub mod Planned
@@ -16,3 +18,4 @@ pub mod StepGoes
 pub mod StepLists
 pub mod StepReplies
 pub mod TopShown
+pub mod WholeReads

@@ -34,7 +34,7 @@ use Rattle.flat_image.specs.RowCells.{sheet_of}
 use Rattle.flat_image.proofs.LayerLaws.{uuid_in-layer}
 
 -- the heads of files are those of their layers
-same-heads : (n : ℕ) (files : List (List ℕ)) (heads : List Head) (layers : List LayerIndex) → AreHeadsOf n files heads → AreLayersOf files layers
+pub same-heads : (n : ℕ) (files : List (List ℕ)) (heads : List Head) (layers : List LayerIndex) → AreHeadsOf n files heads → AreLayersOf files layers
     → (heads ≡ heads_in layers) × HaveSize n layers
 same-heads n [] [] [] are of = (refl, All-nil (λ (l : LayerIndex). l.head.sectors ≡ n))
 same-heads n [] [] (layer ∷ layers) are of = absurd of

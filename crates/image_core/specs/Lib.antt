@@ -14,3 +14,4 @@ pub mod Shows
 pub mod Standing
 pub mod Steps
 pub mod View
+pub mod Whole

@@ -11,6 +11,7 @@ mod parts;
 mod snapshot;
 mod status;
 mod steps;
+mod whole;
 
 pub use creating::CreateFault;
 pub use image::Image;
@@ -20,6 +21,7 @@ pub use parts::LayerList;
 pub use snapshot::Snapshot;
 pub use status::Status;
 pub use steps::{Numbered, Reply, ReplyList, Step, StepList, run_steps};
+pub use whole::WholeFault;
 
 #[cfg(test)]
 mod tests;

@@ -1,0 +1,130 @@
+-- What a read through the layers gives.
+use Rattle.std.proofs.Common.{◌≡◌, ℕ, ◌+◌, ◌*◌, ◌<◌, ◌≤◌, ◌⊎◌, Bool, List, [], ◌∷◌, ◌++◌, length, map, take, drop, refl, sym, ap, subst, ◌∙◌, arith, inl, inr}
+use Rattle.std.specs.Prelude.{slice_index_or}
+use Rattle.std.specs.List.{range_with_len}
+use Rattle.std.proofs.lemmas.List.{append-nil, get_or-take, get_or-drop, length-drop, length-take-le}
+use Rattle.std.proofs.lemmas.List.Elements.{All-head, All-tail, All-take, All-drop}
+use Rattle.std.proofs.lemmas.List.FromFn.{get_or-map-range_with_len}
+use Rattle.sector_extent.specs.declared.extent.Extent.{Extent}
+use Rattle.block_disk.specs.DiskState.{DiskState}
+use Rattle.flat_image.specs.declared.base.Base.{Base}
+use Rattle.flat_image.specs.Sheets.{Cell, Hole, Zero, Filled, IsSector, IsImage, flat}
+use Rattle.flat_image.specs.RowCells.{sector_at}
+use Rattle.flat_image.specs.Base.{IsBase, image_of}
+use Rattle.flat_image.specs.LayerReading.{sheet_in}
+use Rattle.flat_image.specs.History.{History, now, after, reply}
+use Rattle.flat_image.proofs.HistoryLaws.{base-stays, after-is_image, base-is_image, now-lowers}
+use Rattle.sealed_layer.specs.Layers.{LayerIndex}
+use Rattle.merged_index.specs.declared.piece.PieceWhat.{PieceWhat}
+use Rattle.merged_index.specs.declared.piece.PieceWhat.TheVariants as what
+use Rattle.merged_index.specs.Cells.{cells_of, IsIndexOf, NamesData}
+use Rattle.merged_index.specs.Painting.{AreFiles}
+use Rattle.merged_index.proofs.PaintLaws.{paints_as_sheets}
+use Rattle.top_writer.specs.Gaps.{Paints, IsHole, AreGaps}
+use Rattle.image_core.specs.declared.parts.Parts.{Parts}
+use Rattle.image_core.specs.Shows.{AreHeadsOf}
+use Rattle.image_core.specs.View.{AreLayersOf}
+use Rattle.image_core.specs.Parts.{parts_view, ImageStands}
+use Rattle.image_core.specs.Pieces.{SnapshotView, IsSnapshotOf}
+use Rattle.image_core.specs.Planning.{IsPlanned}
+use Rattle.image_core.specs.Whole.{sectors_by, AreFilled, AreOnShelf}
+use Rattle.image_core.specs.Loading.{HaveSize}
+use Rattle.image_core.proofs.Planned.{plan-reads}
+use Rattle.image_core.proofs.Reopening.{same-heads}
+use Rattle.image_core.proofs.FilledSectors.{AreGapsFilled, gaps-filled, bytes-are}
+
+-- files of layers of one size are those of an index of the layers
+are-files : (n : ℕ) (files : List (List ℕ)) (layers : List LayerIndex) → AreLayersOf files layers → HaveSize n layers → AreFiles n files layers
+are-files n [] [] are sizes = tt
+are-files n [] (layer ∷ layers) are sizes = absurd are
+are-files n (file ∷ files) [] are sizes = absurd are
+are-files n (file ∷ files) (layer ∷ layers) are sizes =
+    let Size : LayerIndex → Type 0 = λ l. l.head.sectors ≡ n in
+    ((are.0, All-head Size layer layers sizes), are-files n files layers are.1 (All-tail Size layer layers sizes))
+
+-- a snapshot without committed layers is of the lower ones
+index-of : (s : SnapshotView) (lowers : List LayerIndex) → IsSnapshotOf s lowers [] → IsIndexOf s.index lowers
+index-of s lowers is = subst (IsIndexOf s.index) (append-nil lowers) is.index_is
+
+named-of : (layers : List LayerIndex) (w : PieceWhat) (layer place : ℕ) → w ≡ what.Filled layer place → NamesData layers w 1 → layer < length layers
+named-of layers w layer place is names = (subst (λ (v : PieceWhat). NamesData layers v 1) is names).0
+
+pub on-shelf : (s : SnapshotView) (lowers : List LayerIndex) (files : ℕ) → IsSnapshotOf s lowers [] → files ≡ length lowers → AreOnShelf files (cells_of s.index)
+on-shelf s lowers files is count sector layer place filled =
+    let below : layer < length lowers = named-of lowers (cells_of s.index sector) layer place filled ((index-of s lowers is).names sector) in
+    omega (arith, below, count)
+
+-- a cell is a hole or not
+hole-or : (cell : Cell) → (cell ≡ Hole) ⊎ ¬ (cell ≡ Hole)
+hole-or Hole = inl refl
+hole-or Zero = inr (λ e. cc)
+hole-or (Filled sector) = inr (λ e. cc)
+
+module _ (tells : Bool) (disk : DiskState) (faults : ℕ) (p : Parts) (base : Base) (history : History) (s : SnapshotView) (at count : ℕ) (old mid new : List ℕ) (gaps : List Extent)
+    (stands : ImageStands tells disk faults p base history) (is : IsSnapshotOf s p.lowers []) (size : length old ≡ 512 * count) (long : length new ≡ 512 * count)
+    (within : at + count ≤ (parts_view p).sectors) (paints : Paints (now base history).top at count old mid) (are : AreGaps (IsHole (now base history).top) at (at + count) gaps)
+    (filled : AreFilled (sectors_by base.lowers (cells_of s.index)) at gaps mid new) where
+  abbrev b : Base
+  b = now base history
+
+  abbrev n : ℕ
+  n = (parts_view p).sectors
+
+  abbrev image : List (List ℕ)
+  image = after base history
+
+  -- the image of the lower layers
+  abbrev ground : List (List ℕ)
+  ground = flat n (map sheet_in base.lowers)
+
+  sectors : n ≡ b.sectors
+  sectors = stands.fits.top.holds.sectors
+
+  lows : b.lowers ≡ base.lowers
+  lows = now-lowers base history
+
+  -- and, as the index has it
+  ground-is : ground ≡ map (sectors_by b.lowers (cells_of s.index)) (range_with_len 0 b.sectors)
+  ground-is =
+      let all : b.lowers ++ b.done ≡ b.lowers = ap (λ (d : List (List ℕ)). b.lowers ++ d) stands.fits.none_done ∙ append-nil b.lowers in
+      let stack = stands.fits.sound.stack in
+      let heads : AreHeadsOf b.sectors b.lowers stack.heads = subst (λ (f : List (List ℕ)). AreHeadsOf b.sectors f stack.heads) all stack.are in
+      let sizes : HaveSize b.sectors p.lowers = (same-heads b.sectors b.lowers stack.heads p.lowers heads stands.fits.lowers).1 in
+      (λ i. flat (sectors i) (map sheet_in (sym lows i)))
+      ∙ paints_as_sheets b.sectors b.lowers p.lowers s.index (are-files b.sectors b.lowers p.lowers stands.fits.lowers sizes) (index-of s p.lowers is)
+
+  ground-sector : (i : ℕ) → i < n → slice_index_or ground i [] ≡ sectors_by base.lowers (cells_of s.index) i
+  ground-sector i below =
+      ap (λ (l : List (List ℕ)). slice_index_or l i []) ground-is
+      ∙ (get_or-map-range_with_len (sectors_by b.lowers (cells_of s.index)) 0 b.sectors i i [] (omega (arith, below, sectors)) (omega arith)
+      ∙ ap (λ (files : List (List ℕ)). sectors_by files (cells_of s.index) i) lows)
+
+  planned : IsPlanned image ground (IsHole b.top) at count old mid
+  planned =
+      let none : base.lowers ++ b.done ≡ base.lowers = ap (λ (d : List (List ℕ)). base.lowers ++ d) stands.fits.none_done ∙ append-nil base.lowers in
+      subst (λ (files : List (List ℕ)). IsPlanned image (flat n (map sheet_in files)) (IsHole b.top) at count old mid) none
+      (plan-reads tells disk faults p base history at count old mid stands size within paints)
+
+  image-is : IsImage n image
+  image-is =
+      let good : IsBase b = (base-stays base history stands.base_is stands.few stands.proper).0 in
+      let same : image_of b ≡ image = after-is_image base history stands.base_is stands.few stands.proper in
+      subst (λ (k : ℕ). IsImage k image) (sym sectors) (subst (IsImage b.sectors) same (base-is_image b good))
+
+  sector : (k : ℕ) → k < count → sector_at new k ≡ slice_index_or image (at + k) []
+  sector k below =
+      let done : AreGapsFilled (sectors_by base.lowers (cells_of s.index)) (IsHole b.top) at at (at + count) mid new =
+      gaps-filled (sectors_by base.lowers (cells_of s.index)) (IsHole b.top) at at (at + count) gaps mid new are filled in
+      elim (hole-or (slice_index_or b.top (at + k) Hole)) [
+        | inl hole ↦
+            done.holes k (omega arith) (omega (arith, below)) hole
+            ∙ sym (planned.below (at + k) (omega (arith, below, within, image-is.count)) hole ∙ ground-sector (at + k) (omega (arith, below, within)))
+        | inr some ↦ done.others k (omega arith) (omega (arith, below)) some ∙ planned.read k below some
+      ]
+
+  pub whole-reply : new ≡ reply base history at count
+  whole-reply =
+      let part : List (List ℕ) = take count (drop at image) in
+      let part_long : length part ≡ count = length-take-le count (drop at image) (omega (arith, length-drop at image, image-is.count, within)) in
+      bytes-are part new (All-take IsSector count (drop at image) (All-drop IsSector at image image-is.sectors)) (omega (arith, long, part_long))
+      (λ k below. sector k (omega (arith, below, part_long)) ∙ sym (get_or-take count (drop at image) k [] (omega (arith, below, part_long)) ∙ get_or-drop at image k []))
