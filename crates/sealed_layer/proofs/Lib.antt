@@ -1,3 +1,4 @@
+pub mod BlankFile
 pub mod Ends
 pub mod LayerUnique
 pub mod PaintLemmas

@@ -9,7 +9,7 @@ mod reading;
 mod rows;
 
 pub use fault::LayerFault;
-pub use laws::layer_laws;
+pub use laws::{layer_laws, layers_law};
 pub use layer::Layer;
 pub use painting::paint_part;
 pub use reading::read_layer;

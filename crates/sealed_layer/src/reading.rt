@@ -1,10 +1,11 @@
-ghost use Rattle.std.specs.Prelude.{◌≡◌, ◌+◌, ◌*◌, ◌^◌, ◌<◌, ◌≤◌, ◌↔◌, ◌⊎◌, IsTrue, IfOk, IfErr, IfSome, OnOk, [], min, length, slice_set, vec_capacity};
+ghost use Rattle.std.specs.Prelude.{◌≡◌, ◌+◌, ◌*◌, ◌^◌, ◌<◌, ◌≤◌, ◌↔◌, ◌⊎◌, IsTrue, IfOk, IfErr, IfSome, OnOk, All, [], min, length, slice_set, vec_capacity};
 ghost use Rattle.std.specs.Option.{ForSome};
 ghost use Rattle.lsmt_header.specs.declared.head.Kind.TheVariants.{SealedHead};
-ghost use Rattle.lsmt_header.specs.Blocks.{IsValid, BlockOf};
+ghost use Rattle.lsmt_header.specs.Blocks.{IsValid, Fits, BlockOf};
 ghost use Rattle.layer_shelf.specs.Shelves.{file_at};
 ghost use Rattle.flat_image.specs.RowCells.{AreSpelled, AreLayerRows};
 ghost use Rattle.flat_image.specs.LayerFiles.{IsFramed, IsIndexPlace, LayerOf};
+ghost use Rattle.sealed_layer.specs.Layers.{IsTagged};
 ghost use Rattle.sealed_layer.specs.LayerFaults.{IsLayerFault, IsNoHead, HasLayerCause};
 ghost use Rattle.sealed_layer.specs.RowReading.{StopsReading};
 
@@ -50,6 +51,7 @@ fn read_head<S: Shelf>(shelf: &mut S, k: u32, len: u64) -> Result<Head, LayerFau
     requires told { ForSome (S.files shelf.old) (λ files. len ≡ length (file_at files k)) }
     ensures found { IfOk result (λ head. IfSome (S.files shelf.old) (λ files. IsFramed (file_at files k) head)) }
     ensures valid { IfOk result (λ head. (head.kind ≡ SealedHead) × IsValid head) }
+    ensures sized { IfOk result Fits }
     ensures fault { IfErr result (λ fault. IfSome (S.files shelf.old) (λ files. IsLayerFault (file_at files k) fault)) }
     ensures same_files { S.files shelf.new ≡ S.files shelf.old }
     ensures same_count { S.count shelf.new ≡ S.count shelf.old }
@@ -117,6 +119,7 @@ fn read_rows<S: Shelf>(
     requires few { head.now.rows ≤ 2 ^ 24 }
     requires place { head.now.index_at + 16 * head.now.rows ≤ 2 ^ 50 }
     ensures sound { IfOk result (λ rows. AreLayerRows head.now.sectors head.now.index_at 0 rows.items) }
+    ensures tags { IfOk result (λ rows. All IsTagged rows.items) }
     ensures count { IfOk result (λ rows. length rows.items ≡ head.now.rows) }
     ensures found { IfOk result (λ rows. IfSome (S.files shelf.old) (λ files. AreSpelled (file_at files k) head.now.index_at rows.items)) }
     ensures fault { IfErr result (λ fault. IfSome (S.files shelf.old) (λ files. StopsReading (file_at files k) head.now fault)) }
@@ -147,6 +150,7 @@ fn fill_rows<S: Shelf>(
     requires none { rows.old.items ≡ [] }
     requires room { head.now.rows ≤ vec_capacity rows.old }
     ensures sound { AreLayerRows head.now.sectors head.now.index_at 0 rows.new.items }
+    ensures tags { All IsTagged rows.new.items }
     ensures count { OnOk result (length rows.new.items ≡ head.now.rows) }
     ensures found { OnOk result (IfSome (S.files shelf.old) (λ files. AreSpelled (file_at files k) head.now.index_at rows.new.items)) }
     ensures fault { IfErr result (λ fault. IfSome (S.files shelf.old) (λ files. StopsReading (file_at files k) head.now fault)) }

@@ -4,6 +4,7 @@ use Rattle.std.proofs.lemmas.Result.{err_from_is_err_and}
 use Rattle.layer_shelf.specs.Shelves.{file_at}
 use Rattle.seg_mapping.specs.declared.Row.{Row}
 use Rattle.sealed_layer.proofs.ReadLemmas.{more_read, stopped}
+use Rattle.sealed_layer.proofs.Pushing.{tags-grow}
 use Rattle.sealed_layer.proofs.Told.{IfSome-both}
 use Rattle.sealed_layer.proofs.reading.fill_rows.Goals as goal
 
@@ -23,6 +24,10 @@ returns-in_err-low-clause-fault g c =
     (bytes ∙ ap (λ (n : ℕ). take size (drop (c.args.head.now.index_at + 16 * n) (file_at files c.args.k))) at)
     more (omega (arith, some, long, more)) (omega (arith, some, long, more)) so_far grows c.in_err-low.ensures.fault))
 
+pub returns-in_err-low-clause-tags : goal.returns-in_err-low-clause-tags
+returns-in_err-low-clause-tags g c =
+    tags-grow c.args.head.now c.read.new.out c.loop-rows.rows.items c.push_rows.new.rows.items c.in_err-low.ensures.grows c.loop-rows.invariant.tags
+
 pub loop-rows-preserved : goal.loop-rows-preserved
 loop-rows-preserved g c =
     let old : List Row = c.loop-rows.rows.items in let rows : List Row = c.push_rows.new.rows.items in
@@ -38,6 +43,7 @@ loop-rows-preserved g c =
       room = omega (arith, room, c.loop-rows.invariant.room);
       low = c.in_ok-low.ensures.low;
       sound = grows.sound;
+      tags = tags-grow c.args.head.now c.read.new.out old rows grows c.loop-rows.invariant.tags;
       spelled = IfSome-both (g.S.Shelf.files c.args.shelf.now) (g.S.Shelf.files c.loop-rows.shelf) c.loop-rows.invariant.files c.loop-rows.invariant.spelled c.in_ok-read.ensures.bytes
           (λ files told so_far bytes.
           more_read (file_at files c.args.k) c.read.new.out c.args.head.now old rows size

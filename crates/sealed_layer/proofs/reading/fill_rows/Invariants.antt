@@ -1,6 +1,7 @@
-use Rattle.std.proofs.Common.{◌≡◌, ◌-◌, ◌≤◌, length, IfSome, vec_capacity}
+use Rattle.std.proofs.Common.{◌≡◌, ◌-◌, ◌≤◌, length, All, IfSome, vec_capacity}
 use Rattle.layer_shelf.specs.Shelves.{file_at}
 use Rattle.flat_image.specs.RowCells.{AreSpelled, AreLayerRows, end_of}
+use Rattle.sealed_layer.specs.Layers.{IsTagged}
 use Rattle.sealed_layer.proofs.reading.fill_rows.Given as goal
 
 -- the rows so far are read
@@ -13,6 +14,7 @@ invariant-loop-rows g l = record {
   room : l.count ≤ vec_capacity l.rows;
   low : l.low ≡ end_of 0 l.rows.items;
   sound : AreLayerRows l.head.sectors l.head.index_at 0 l.rows.items;
+  tags : All IsTagged l.rows.items;
   spelled : IfSome (g.S.Shelf.files l.initial.shelf) (λ files. AreSpelled (file_at files l.k) l.head.index_at l.rows.items);
 }
 

@@ -24,9 +24,13 @@ new-requires g c =
     record {
       kind = c.in_ok-head.ensures.valid.0;
       valid = c.in_ok-head.ensures.valid.1;
+      sized = c.in_ok-head.ensures.sized;
+      from = ok.1.from;
+      whole = ok.1.whole;
       index_at = omega (arith, end, limit);
       few = ok.0;
       count = c.in_ok-rows.ensures.count;
       fits = all_fit _ _ _ _ c.in_ok-rows.ensures.sound;
+      tags = c.in_ok-rows.ensures.tags;
       sound = c.in_ok-rows.ensures.sound;
     }
