@@ -18,14 +18,15 @@ use Rattle.top_writer.specs.declared.fault.TopFault.{TopFault}
 use Rattle.top_writer.specs.declared.fault.TopFault.TheVariants.{Memory, Failed, NoTop}
 use Rattle.top_writer.specs.declared.fault.TopReason.{TopReason}
 use Rattle.top_writer.specs.declared.fault.TopReason.TheVariants as why
+use Rattle.top_writer.specs.Blank.{blank_sheet}
 use Rattle.top_writer.specs.Files.{Stored, stored_in, data_file, index_file, mark_file}
-use Rattle.top_writer.specs.Fitting.{HasFront, IsData, IsIndex, ViewFits}
+use Rattle.top_writer.specs.Fitting.{HasFront, IsData, IsIndex, IsTableOf, ViewFits}
 use Rattle.top_writer.specs.Loading.{IsRefused, IsShort, IsFront, AreFronts, IsFound, Stops, StopsReading, AreLoaded}
 use Rattle.top_writer.specs.Reasons.{AreLong, HasParent, HasMark, IsWhole, StopsAtRow, IsRowReason, IsReason}
 use Rattle.top_writer.specs.Rows.{IsTopRow, top_sheet}
 use Rattle.top_writer.specs.Showing.{Counts, ShowsTop}
 use Rattle.top_writer.specs.View.{TopView}
-use Rattle.top_writer.proofs.LoadedFile.{data_of, length-data_of, head-data_of, front-data_of}
+use Rattle.top_writer.proofs.LoadedFile.{data_of, length-data_of, head-data_of, front-data_of, blank-data_of}
 use Rattle.top_writer.proofs.OneStand.{no_refusal}
 use Rattle.top_writer.proofs.QuietLaws.{quiet_left}
 use Rattle.top_writer.proofs.RowCellLaws.{sheet_front}
@@ -173,6 +174,7 @@ pub record IsLoad (tells : Bool) (now : DiskState) (n : ℕ) (parent : Option (L
   pub stand : Stand
   pub fits : ViewFits tells now n parent v stand (stand ∷ [])
   pub shows : IsTrue tells → ShowsTop n parent stand t
+  pub blank : ¬ IsTrue tells → stand.cells ≡ blank_sheet n v.segments
 
 pub load_is : (tells : Bool) (now : DiskState) (epoch n : ℕ) (parent : Option (List ℕ)) (t : Stored) (mark : Mark) (segments : List Segment) (count filled : ℕ) (waiting : List ℕ)
     → epoch ≤ 255 → waiting ≡ []
@@ -194,6 +196,7 @@ load_is tells now epoch n parent t mark segments count filled waiting low empty 
     let whole = (found.told told).whole in
     let heads : HasParent n parent t = whole.counts.mark.heads in
     record { head = heads.0.0.1; size = heads.0.2; long = omega (arith, whole.index_long, loaded.number); spelled = loaded.spelled told } in
+    let table : IsTableOf n filled file rows segments = table_of_rows n filled file rows segments loaded.sound loaded.cells in
     record {
       stand = s;
       fits = record {
@@ -210,7 +213,7 @@ load_is tells now epoch n parent t mark segments count filled waiting low empty 
           rows_are = refl;
           filled_are = refl;
           cells = refl;
-          table = table_of_rows n filled file rows segments loaded.sound loaded.cells;
+          table = table;
           waiting = subst (AreSpelled waiting 0) (sym none) tt;
           waiting_size = omega (arith, ap length empty);
         };
@@ -254,4 +257,5 @@ load_is tells now epoch n parent t mark segments count filled waiting low empty 
             sound = loaded.sound;
             cells = sym (sheet_front n filled rows file t.bytes loaded.sound (front told));
           };
+      blank = blank-data_of tells n filled found.block t.bytes rows segments found.block_long table;
     }

@@ -9,12 +9,13 @@ ghost use Rattle.gate_mark.specs.MarkFile.{Shows};
 ghost use Rattle.flat_image.specs.Left.{Stand};
 ghost use Rattle.top_writer.specs.declared.fault.TopFault.TheVariants.{Memory, Failed, NoTop};
 ghost use Rattle.top_writer.specs.declared.fault.TopReason.{TopReason};
+ghost use Rattle.top_writer.specs.Blank.{blank_sheet};
 ghost use Rattle.top_writer.specs.Files.{Stored, stored_in, data_file, index_file, mark_file};
 ghost use Rattle.top_writer.specs.Fitting.{TopFits};
 ghost use Rattle.top_writer.specs.Loading.{IsRefused, IsShort, IsFront, IsFound};
 ghost use Rattle.top_writer.specs.Reasons.{HasParent, IsReason};
 ghost use Rattle.top_writer.specs.Showing.{ShowsTop};
-ghost use Rattle.top_writer.specs.View.{epoch_of, sectors_of, sequence_of};
+ghost use Rattle.top_writer.specs.View.{epoch_of, sectors_of, sequence_of, table_of};
 
 use crate::fault::{TopFault, TopReason};
 use crate::layout::{BLOCK, data_number, index_number, mark_number};
@@ -53,9 +54,11 @@ impl Top {
     ) -> Result<Top, TopFault>
         requires epoch { epoch ≤ 255 }
         requires size { IsSize sectors }
-        // the top that the files show, and what a crash may leave is just that
+        // the top that the files show, and what a crash may leave is just that; where the disk does not
+        // tell, what was read of them, with zeros as data
         ensures shows { IfOk result (λ top. (s : Stand) × TopFits D.tells (D.state disk.new) sectors parent top s (s ∷ [])
-            × (IsTrue D.tells → ShowsTop sectors parent s (stored_in epoch (D.state disk.old).seen))) }
+            × (IsTrue D.tells → ShowsTop sectors parent s (stored_in epoch (D.state disk.old).seen))
+            × (¬ IsTrue D.tells → s.cells ≡ blank_sheet sectors (table_of top).segments)) }
         ensures is { IfOk result (λ top. (epoch_of top ≡ epoch) × (sectors_of top ≡ sectors) × (sequence_of top ≤ 2 ^ 61)) }
         ensures reason { (reason : TopReason) → result ≡ Err (NoTop reason) → IsTrue D.tells → IsReason sectors parent (stored_in epoch (D.state disk.old).seen) reason }
         // files that show a top are loaded as that top, or there is no memory, or the disk fails

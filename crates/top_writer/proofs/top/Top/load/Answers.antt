@@ -72,7 +72,7 @@ returns-clause-shows g c =
     (quiet_seen old new all (data_file c.args.epoch))
     (found_later tells mid new c.args.epoch c.args.sectors c.args.parent t found.mark found.rows found.filled c.read_table.ensures.quiet c.in_ok-found.ensures.found)
     loaded in
-    (is.stand, is.fits, is.shows)
+    (is.stand, is.fits, is.shows, is.blank)
 
 pub returns-clause-complete : goal.returns-clause-complete
 returns-clause-complete g c = λ s shows low told.
