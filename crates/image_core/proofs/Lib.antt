@@ -1,3 +1,4 @@
+pub mod BlankLayers
 pub mod Created
 pub mod FilesShown
 pub mod FilledSectors

@@ -20,12 +20,13 @@ use Rattle.flat_image.specs.Left.{Stand}
 use Rattle.flat_image.proofs.LayerLaws.{length-range, all_cells}
 use Rattle.flat_image.proofs.RowStretches.{rows-make_few}
 use Rattle.top_writer.specs.declared.fault.TopReason.{TopReason}
+use Rattle.top_writer.specs.Blank.{blank_sheet}
 use Rattle.top_writer.specs.Files.{stored_in}
 use Rattle.top_writer.specs.Fitting.{TopFits, ViewFits}
 use Rattle.top_writer.specs.Reasons.{IsReason}
 use Rattle.top_writer.specs.Rows.{IsTopRow}
 use Rattle.top_writer.specs.Showing.{ShowsTop}
-use Rattle.top_writer.specs.View.{TopView, view_of, epoch_of, sequence_of}
+use Rattle.top_writer.specs.View.{TopView, view_of, epoch_of, sectors_of, table_of, sequence_of}
 use Rattle.image_core.specs.declared.loading.LoadFault.{LoadFault}
 use Rattle.image_core.specs.declared.loading.LoadFault.TheVariants as why
 use Rattle.image_core.specs.declared.parts.Parts.{Parts}
@@ -119,9 +120,10 @@ pub loaded : (tells : Bool) (old mid new : DiskState) (faults : ℕ) (p : Parts)
     → ((d : LayerIndex) (i : ℕ) → i + 1 ≡ length slice → parent ≡ (slice_index_or slice i d).head.uuid)
     → Quiet old mid → Quiet mid new → file_of p.manifest ≡ manifest_file → IsKept mid p.manifest → ((b : List ℕ) → MayHold p.manifest b → b ≡ body)
     → (IsTrue tells → HasManifest old.seen body) → IsBareBody body → n ≡ size_said body
+    → (¬ IsTrue tells → s.cells ≡ blank_sheet n (table_of p.top).segments)
     → TopFits tells new n (Some parent) p.top s (s ∷ []) → (IsTrue tells → ShowsTop n (Some parent) s (stored_in 0 mid.seen)) → epoch_of p.top ≡ 0 → sequence_of p.top ≤ 2 ^ 61
     → IsLoaded tells old new faults files p
-loaded tells old mid new faults p n files layers slice parent body s are few sizes stack same lowers steps snapshot none some first second file kept bodies manifest bare size top shows epoch low =
+loaded tells old mid new faults p n files layers slice parent body s are few sizes stack same lowers steps snapshot none some first second file kept bodies manifest bare size blank top shows epoch low =
     let length_is : length slice ≡ length layers = ap (length {A = LayerIndex}) same in
     let uppermost : parent ≡ top_uuid files =
     files-parent files layers parent are (λ empty. none (length_is ∙ empty))
@@ -148,6 +150,19 @@ loaded tells old mid new faults p n files layers slice parent body s are few siz
             frozen = tt;
             top = subst (λ (u : List ℕ). ShowsTop n (Some u) s (stored_in 0 old.seen)) uppermost
                 (subst (ShowsTop n (Some parent) s) (stored-same 0 mid.seen old.seen (λ f of_top. sym (first.others.seen f (λ none. none)))) (shows told));
+          };
+      untold = λ no.
+          let holds = top.holds in
+          let cells : s.cells ≡ blank_sheet (sectors_of p.top) (table_of p.top).segments = blank no ∙ ap (λ m. blank_sheet m (table_of p.top).segments) (sym holds.sectors) in
+          λ i. record {
+            sectors = sym holds.sectors i;
+            lowers = files;
+            done = [];
+            frozen = None;
+            top = cells i;
+            rows = holds.rows_are i;
+            filled = holds.filled_are i;
+            faults = faults;
           };
       stands = record {
         base_is = record {

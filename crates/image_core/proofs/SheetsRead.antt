@@ -20,7 +20,7 @@ use Rattle.top_writer.specs.View.{cell_at}
 use Rattle.image_core.specs.Numbers.{sealed_file}
 use Rattle.image_core.specs.Shows.{AreSealed}
 use Rattle.image_core.specs.View.{CommitView, ImageView, AreLayersOf, IsKindOf, HasKinds, ReadsAs, IsCommitOf, CommitReadsAs, IsViewOf, ReadsAsBase, cells_read, sealed_read, commit_read, sheets_read}
-use Rattle.image_core.specs.Opening.{blank_cell, blank_sheet}
+use Rattle.top_writer.specs.Blank.{blank_cell, blank_sheet}
 use Rattle.image_core.specs.Laws.{AreAlike, SameKinds, SameCommit, BlankHasKinds}
 
 -- what is read cell by cell is the sheet

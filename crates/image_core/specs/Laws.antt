@@ -11,9 +11,9 @@ use Rattle.flat_image.specs.Sheets.{IsImage, flat}
 use Rattle.flat_image.specs.Base.{image_of, IsBase, HasFewStretches}
 use Rattle.flat_image.specs.History.{History, now, after, committed, kept}
 use Rattle.flat_image.specs.Left.{Blamed}
+use Rattle.top_writer.specs.Blank.{blank_sheet}
 use Rattle.image_core.specs.Shows.{AreSealed, Shows, IsNamed}
 use Rattle.image_core.specs.View.{CommitView, ImageView, HasKinds, sealed_read, sheets_read}
-use Rattle.image_core.specs.Opening.{blank_sheet}
 use Rattle.image_core.specs.Standing.{ShowsLeft, StandsFor}
 use Rattle.image_core.specs.Keeping.{KeepsFor}
 

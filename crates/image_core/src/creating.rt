@@ -5,6 +5,7 @@ ghost use Rattle.sector_extent.specs.Causes.{HasCause};
 ghost use Rattle.lsmt_header.specs.Blocks.{IsSize, nil};
 ghost use Rattle.block_disk.specs.Claims.{Quiet};
 ghost use Rattle.sealed_layer.specs.Layers.{LayerIndex};
+ghost use Rattle.top_writer.specs.View.{sectors_of};
 ghost use Rattle.image_core.specs.declared.creating.CreateFault.TheVariants as faults;
 ghost use Rattle.image_core.specs.Numbers.{manifest_file};
 ghost use Rattle.image_core.specs.View.{AreLayersOf};
@@ -88,6 +89,7 @@ impl Parts {
         requires size { IsSize sectors }
         ensures stands { IfOk result (λ parts. (files : List (List ℕ)) → AreLayersOf files lowers
             → ImageStands D.tells (D.state disk.new) (D.faults disk.new) parts (fresh_at sectors files (D.faults disk.new)) []) }
+        ensures frame { IfOk result (λ parts. (parts.lowers ≡ lowers) × (parts.steps ≡ 0) × (sectors_of parts.top ≡ sectors)) }
         ensures exists { IsTrue D.tells → TellsExists ((D.state disk.old).seen manifest_file) result }
         ensures failed { IsErrOf result faults.Failed → D.faults disk.old < D.faults disk.new }
         ensures later { D.faults disk.old ≤ D.faults disk.new }

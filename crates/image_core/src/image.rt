@@ -1,5 +1,5 @@
 //! The image with its disk.
-ghost use Rattle.std.specs.Prelude.{◌≡◌, ◌≢◌, ℕ, ◌+◌, ◌*◌, ◌^◌, ◌<◌, ◌≤◌, ◌⊎◌, ◌↔◌, List, [], length, Err, None, IsTrue, IfOk, IfErr, OnOk, OnErr, MatchResult, IsErrOf};
+ghost use Rattle.std.specs.Prelude.{◌≡◌, ◌≢◌, ℕ, ◌+◌, ◌*◌, ◌^◌, ◌<◌, ◌≤◌, ◌⊎◌, ◌↔◌, List, [], length, Option, Err, None, IsTrue, IfSome, IfOk, IfErr, OnOk, OnErr, MatchResult, IsErrOf};
 ghost use Rattle.std.specs.Arc.{arc_value};
 ghost use Rattle.sector_extent.specs.Causes.{HasCause};
 ghost use Rattle.sector_extent.specs.Rows.{rows_for};
@@ -16,10 +16,12 @@ ghost use Rattle.image_core.specs.declared.loading.LoadFault.TheVariants as why;
 ghost use Rattle.image_core.specs.Loading.{IsLoadReason};
 ghost use Rattle.block_disk.specs.Claims.{Quiet};
 ghost use Rattle.image_core.specs.Numbers.{manifest_file};
+ghost use Rattle.image_core.specs.Shows.{Shows, IsUnworn};
 ghost use Rattle.image_core.specs.View.{AreLayersOf};
+ghost use Rattle.image_core.specs.Opening.{lowers_from};
 ghost use Rattle.image_core.specs.Pieces.{IsSnapshotOf, IsStatusOf};
 ghost use Rattle.image_core.specs.Standing.{StandsFor};
-ghost use Rattle.image_core.specs.Parts.{parts_view, ImageStands, IsLoaded, IsStanding, Goes, noted_change, noted_call, noted_read};
+ghost use Rattle.image_core.specs.Parts.{parts_view, ImageStands, IsLoaded, IsOpened, IsStanding, Goes, noted_change, noted_call, noted_read};
 ghost use Rattle.image_core.specs.Creating.{AreLegal, fresh_at};
 
 use crate::creating::CreateFault;
@@ -29,6 +31,7 @@ use crate::snapshot::Snapshot;
 use crate::status::Status;
 use block_disk::{Disk, DiskFailed};
 use flat_image::{Act, Base, Stands};
+use sealed_layer::layers_law;
 use sector_extent::{Extent, GapList};
 use std::alloc::Global;
 use std::sync::Arc;
@@ -64,6 +67,11 @@ impl<D: Disk> Image<D> {
         requires size { IsSize sectors }
         ensures stands { IfOk result (λ image. (files : List (List ℕ)) → AreLayersOf files lowers
             → ⟦<Image<D> as Stands>⟧.stands image (fresh_at sectors files (D.faults image.disk)) 0 []) }
+        // and so where no files are told: the layers are those of files with zeros as data
+        ensures starts { IfOk result (λ image. (told : Option (List (List ℕ))) → IfSome told (λ files. AreLayersOf files lowers)
+            → ⟦<Image<D> as Stands>⟧.stands image (fresh_at sectors (lowers_from told lowers) (D.faults image.disk)) 0 []) }
+        ensures standing { IfOk result (λ image. IsStanding D.tells (D.state image.disk) (D.faults image.disk) image.parts) }
+        ensures frame { IfOk result (λ image. ((parts_view image.parts).lowers ≡ lowers) × ((parts_view image.parts).steps ≡ 0) × ((parts_view image.parts).sectors ≡ sectors)) }
         ensures exists { IfErr result (λ refusal. IsTrue D.tells → refusal.1 ≡ faults.Exists → mark_of ((D.state disk).seen manifest_file) ≢ None) }
         ensures new { OnOk result (IsTrue D.tells → mark_of ((D.state disk).seen manifest_file) ≡ None) }
         ensures always { IsTrue D.tells → mark_of ((D.state disk).seen manifest_file) ≢ None → IfErr result (λ refusal. (refusal.1 ≡ faults.Exists) ⊎ (refusal.1 ≡ faults.Failed)) }
@@ -73,6 +81,7 @@ impl<D: Disk> Image<D> {
         ensures unbegun { IfErr result (λ refusal. refusal.1 ≡ faults.Memory → Quiet (D.state disk) (D.state refusal.0)) }
     {
         let mut disk = disk;
+        layers_law(lowers.as_slice());
         match Parts::create(alloc, &mut disk, lowers, sectors) {
             Ok(parts) => Ok(Image { disk, parts }),
             Err(fault) => Err((disk, fault)),
@@ -85,12 +94,24 @@ impl<D: Disk> Image<D> {
         requires few { length lowers ≤ 255 }
         ensures stands { IfOk result (λ image. (files : List (List ℕ)) → AreLayersOf files lowers
             → IsLoaded D.tells (D.state disk) (D.state image.disk) (D.faults image.disk) files image.parts) }
+        // and so where no files are told
+        ensures starts { IfOk result (λ image. (told : Option (List (List ℕ))) → IfSome told (λ files. AreLayersOf files lowers)
+            → IsOpened D.tells (D.state disk) (D.state image.disk) (D.faults image.disk) told image.parts) }
+        ensures standing { IfOk result (λ image. IsStanding D.tells (D.state image.disk) (D.faults image.disk) image.parts) }
+        ensures frame { IfOk result (λ image. ((parts_view image.parts).lowers ≡ lowers) × ((parts_view image.parts).steps ≡ 0)) }
+        // files that show an image without commits over these layers are opened as that image, or there is no
+        // memory, or the disk fails
+        ensures complete { (base : bases.Base) (shows : Shows (D.state disk).seen base) → IsUnworn (D.state disk).seen base shows → base.done ≡ [] → base.frozen ≡ None
+            → AreLayersOf base.lowers lowers → IsTrue D.tells
+            → MatchResult result (λ image. ⟦<Image<D> as Stands>⟧.stands image (record base { faults = D.faults image.disk }) 0 [])
+            (λ refusal. (refusal.1 ≡ why.Memory) ⊎ (refusal.1 ≡ why.Failed)) }
         ensures reason { IfErr result (λ refusal. IsTrue D.tells → IsLoadReason (D.state disk).seen lowers refusal.1) }
         ensures quiet { MatchResult result (λ image. Quiet (D.state disk) (D.state image.disk)) (λ refusal. Quiet (D.state disk) (D.state refusal.0)) }
         ensures failed { IfErr result (λ refusal. refusal.1 ≡ why.Failed → D.faults disk < D.faults refusal.0) }
         ensures later { MatchResult result (λ image. D.faults disk ≤ D.faults image.disk) (λ refusal. D.faults disk ≤ D.faults refusal.0) }
     {
         let mut disk = disk;
+        layers_law(lowers.as_slice());
         match Parts::load(alloc, &mut disk, lowers) {
             Ok(parts) => Ok(Image { disk, parts }),
             Err(fault) => Err((disk, fault)),

@@ -169,6 +169,7 @@ impl Parts {
         requires few { length lowers ≤ 255 }
         ensures stands { IfOk result (λ parts. (files : List (List ℕ)) → AreLayersOf files lowers
             → IsLoaded D.tells (D.state disk.old) (D.state disk.new) (D.faults disk.new) files parts) }
+        ensures frame { IfOk result (λ parts. (parts.lowers ≡ lowers) × (parts.steps ≡ 0)) }
         ensures reason { IfErr result (λ fault. IsTrue D.tells → IsLoadReason (D.state disk.old).seen lowers fault) }
         ensures quiet { Quiet (D.state disk.old) (D.state disk.new) }
         ensures failed { IsErrOf result why.Failed → D.faults disk.old < D.faults disk.new }

@@ -49,4 +49,4 @@ returns-clause-stands g c files are =
     c.parent_of-parent.ensures.none c.parent_of-parent.ensures.some c.load_manifest.ensures.quiet c.load.ensures.quiet
     c.in_ok-manifest.ensures.mark.0 c.in_ok-manifest.ensures.kept c.in_ok-manifest.ensures.bodies c.in_ok-manifest.ensures.shows
     (subst IsBareBody c.get.ensures c.in-Some.ensures.some.0) (c.in-Some.ensures.some.1 ∙ ap size_said c.get.ensures)
-    shows.1 shows.2 c.in-Ok.ensures.is.0 c.in-Ok.ensures.is.2
+    shows.3 shows.1 shows.2 c.in-Ok.ensures.is.0 c.in-Ok.ensures.is.2
