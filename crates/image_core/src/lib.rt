@@ -24,4 +24,6 @@ pub use steps::{Numbered, Reply, ReplyList, Step, StepList, run_steps};
 pub use whole::WholeFault;
 
 #[cfg(test)]
+mod table_tests;
+#[cfg(test)]
 mod tests;
