@@ -24,6 +24,8 @@ pub use steps::{Numbered, Reply, ReplyList, Step, StepList, run_steps};
 pub use whole::WholeFault;
 
 #[cfg(test)]
+mod steps_tests;
+#[cfg(test)]
 mod table_tests;
 #[cfg(test)]
 mod tests;
