@@ -1,5 +1,5 @@
 //! Lists of steps of an image, made one after another.
-ghost use Rattle.std.specs.Prelude.{◌≡◌, ℕ, ◌+◌, ◌*◌, ◌^◌, ◌<◌, ◌≤◌, List, ◌∷◌, ◌++◌, length, drop, IfOk, OnOk, OnErr, MatchResult};
+ghost use Rattle.std.specs.Prelude.{◌≡◌, ℕ, ◌+◌, ◌^◌, ◌<◌, ◌≤◌, ◌++◌, length, IfOk, OnOk, OnErr};
 ghost use Rattle.flat_image.specs.declared.base.Base as bases;
 ghost use Rattle.flat_image.specs.History.{History, now, fault_count};
 ghost use Rattle.image_core.specs.Parts.{parts_view, ImageStands, IsStanding, Goes};

@@ -1,4 +1,4 @@
-ghost use Rattle.std.specs.Prelude.{◌≡◌, ◌+◌, ◌*◌, ◌<◌, ◌≤◌, IfOk, [], length};
+ghost use Rattle.std.specs.Prelude.{◌≡◌, ◌+◌, ◌<◌, ◌≤◌, IfOk, [], length};
 ghost use Rattle.image_core.specs.Parts.{parts_view, IsStanding};
 ghost use Rattle.image_core.specs.Steps.{MayStep, MayRun};
 
