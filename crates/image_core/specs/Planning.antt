@@ -17,9 +17,14 @@ pub record IsPlanned (image layers : List (List ℕ)) (is_gap : ℕ → Type 0) 
   pub left : (k : ℕ) → k < count → is_gap (at + k) → sector_at new k ≡ sector_at old k
   pub below : (i : ℕ) → i < length image → is_gap i → slice_index_or image i [] ≡ slice_index_or layers i []
 
--- what the top of an image paints over a part, is of the image after the history outside the top's holes, and these are
--- the layers'
+-- what a plan gives of an image of n sectors that is made of the base by the history: the gaps are the top's holes, and
+-- these are the layers', lower and committed
+abbrev pub IsPlanOf : ℕ → Base → History → ℕ → ℕ → List ℕ → List ℕ → Type 0
+IsPlanOf n base history at count old new =
+    IsPlanned (after base history) (flat n (map sheet_in (base.lowers ++ committed base history))) (IsHole (now base history).top) at count old new
+
+-- what the top of an image paints over a part is a plan of it
 abbrev pub PlanReads : Bool → DiskState → ℕ → Parts → Base → History → ℕ → ℕ → List ℕ → List ℕ → Type 0
 PlanReads tells disk faults p base history at count old new =
     ImageStands tells disk faults p base history → length old ≡ 512 * count → at + count ≤ (parts_view p).sectors → Paints (now base history).top at count old new
-    → IsPlanned (after base history) (flat (parts_view p).sectors (map sheet_in (base.lowers ++ committed base history))) (IsHole (now base history).top) at count old new
+    → IsPlanOf (parts_view p).sectors base history at count old new

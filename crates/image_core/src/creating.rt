@@ -1,8 +1,9 @@
 //! Making an image.
-ghost use Rattle.std.specs.Prelude.{◌≡◌, ℕ, ◌+◌, ◌<◌, ◌≤◌, List, [], length, map, IsTrue, IfOk, OnOk, IsErrOf, slice_index_or};
+ghost use Rattle.std.specs.Prelude.{◌≡◌, ◌≢◌, ℕ, ◌+◌, ◌<◌, ◌≤◌, List, [], length, map, None, IsTrue, IfOk, OnOk, IsErrOf, slice_index_or};
 ghost use Rattle.std.specs.Arc.{arc_value};
 ghost use Rattle.sector_extent.specs.Causes.{HasCause};
 ghost use Rattle.lsmt_header.specs.Blocks.{IsSize, nil};
+ghost use Rattle.gate_mark.specs.MarkFile.{mark_of};
 ghost use Rattle.block_disk.specs.Claims.{Quiet};
 ghost use Rattle.sealed_layer.specs.Layers.{LayerIndex};
 ghost use Rattle.top_writer.specs.View.{sectors_of};
@@ -95,6 +96,7 @@ impl Parts {
         ensures later { D.faults disk.old ≤ D.faults disk.new }
         ensures untouched { IsErrOf result faults.Exists → Quiet (D.state disk.old) (D.state disk.new) }
         ensures unbegun { IsErrOf result faults.Memory → Quiet (D.state disk.old) (D.state disk.new) }
+        ensures kept { IsTrue D.tells → mark_of ((D.state disk.old).seen manifest_file) ≢ None → Quiet (D.state disk.old) (D.state disk.new) }
     {
         check_new(disk)?;
         let Ok(snapshot) = snapshot_of(alloc, lowers.as_slice()) else {

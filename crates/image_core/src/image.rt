@@ -20,6 +20,7 @@ ghost use Rattle.image_core.specs.Shows.{Shows, IsUnworn};
 ghost use Rattle.image_core.specs.View.{AreLayersOf};
 ghost use Rattle.image_core.specs.Opening.{lowers_from};
 ghost use Rattle.image_core.specs.Pieces.{IsSnapshotOf, IsStatusOf};
+ghost use Rattle.image_core.specs.Planning.{IsPlanOf};
 ghost use Rattle.image_core.specs.Standing.{StandsFor};
 ghost use Rattle.image_core.specs.Parts.{parts_view, ImageStands, IsLoaded, IsOpened, IsStanding, Goes, noted_change, noted_call, noted_read};
 ghost use Rattle.image_core.specs.Creating.{AreLegal, fresh_at};
@@ -56,7 +57,8 @@ impl<D: Disk> Stands for Image<D> {
 
 impl<D: Disk> Image<D> {
     /// Makes an image of so many sectors over lower layers, in which nothing was written. They form a
-    /// stack of that size, or there are none. A disk whose manifest holds a mark already is refused.
+    /// stack of that size, or there are none. A disk whose manifest holds a mark already is refused, and
+    /// nothing of it is changed. Where it held none, the files may hold anything after `Failed`.
     pub fn create(
         alloc: Global,
         disk: D,
@@ -79,6 +81,8 @@ impl<D: Disk> Image<D> {
         ensures later { MatchResult result (λ image. D.faults disk ≤ D.faults image.disk) (λ refusal. D.faults disk ≤ D.faults refusal.0) }
         ensures untouched { IfErr result (λ refusal. refusal.1 ≡ faults.Exists → Quiet (D.state disk) (D.state refusal.0)) }
         ensures unbegun { IfErr result (λ refusal. refusal.1 ≡ faults.Memory → Quiet (D.state disk) (D.state refusal.0)) }
+        // an image that is there stays as it was, whatever the answer
+        ensures kept { IsTrue D.tells → mark_of ((D.state disk).seen manifest_file) ≢ None → IfErr result (λ refusal. Quiet (D.state disk) (D.state refusal.0)) }
     {
         let mut disk = disk;
         layers_law(lowers.as_slice());
@@ -162,7 +166,8 @@ impl<D: Disk> Image<D> {
     }
 
     /// The part of a read that the top has: its sectors in `out`, and the others as `gaps`, in order,
-    /// with the layers in which these are to be searched. What `gaps` held before is dropped.
+    /// with the layers in which these are to be searched. What `gaps` held before is dropped. After a
+    /// refusal `out` and `gaps` may hold anything.
     pub fn plan(
         &mut self,
         alloc: Global,
@@ -179,7 +184,11 @@ impl<D: Disk> Image<D> {
             → ⟦<Image<D> as Stands>⟧.stands self.old base 0 history → Paints (now base history).top extent.at extent.count out.old out.new) }
         ensures gaps { OnOk result ((base : bases.Base) (history : History) → ⟦<Image<D> as Stands>⟧.stands self.old base 0 history
             → AreGaps (IsHole (now base history).top) extent.at (extent.at + extent.count) gaps.new) }
+        // the image after the history stands in `out`, but for the gaps, and there it is that of the layers alone
+        ensures image { OnOk result (IsTrue D.tells → (base : bases.Base) (history : History)
+            → ⟦<Image<D> as Stands>⟧.stands self.old base 0 history → IsPlanOf (parts_view self.old.parts).sectors base history extent.at extent.count out.old out.new) }
         ensures snapshot { IfOk result (λ snapshot. IsSnapshotOf (arc_value snapshot) (parts_view self.old.parts).lowers (parts_view self.old.parts).committed) }
+        ensures quiet { Quiet (D.state self.old.disk) (D.state self.new.disk) }
         ensures failed { IsErrOf result reads.Failed → D.faults self.old.disk < D.faults self.new.disk }
         ensures later { D.faults self.old.disk ≤ D.faults self.new.disk }
     {

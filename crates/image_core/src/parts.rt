@@ -10,7 +10,9 @@ ghost use Rattle.top_writer.specs.declared.fault.WriteFault.TheVariants.{Full, F
 ghost use Rattle.top_writer.specs.declared.fault.ReadFault.TheVariants as reads;
 ghost use Rattle.top_writer.specs.Gaps.{Paints, IsHole, AreGaps};
 ghost use Rattle.top_writer.specs.View.{sectors_of, rows_used, sectors_used};
+ghost use Rattle.block_disk.specs.Claims.{Quiet};
 ghost use Rattle.image_core.specs.Pieces.{IsSnapshotOf};
+ghost use Rattle.image_core.specs.Planning.{IsPlanOf};
 ghost use Rattle.image_core.specs.Parts.{ImageStands, IsStanding, Goes, noted_change, noted_call, noted_read};
 
 use crate::snapshot::Snapshot;
@@ -133,7 +135,10 @@ impl Parts {
             → Paints (now base history).top extent.at extent.count out.old out.new) }
         ensures gaps { OnOk result ((base : bases.Base) (history : History) → ImageStands D.tells (D.state disk.old) (D.faults disk.old) self.old base history
             → AreGaps (IsHole (now base history).top) extent.at (extent.at + extent.count) gaps.new) }
+        ensures image { OnOk result (IsTrue D.tells → (base : bases.Base) (history : History) → ImageStands D.tells (D.state disk.old) (D.faults disk.old) self.old base history
+            → IsPlanOf (sectors_of self.old.top) base history extent.at extent.count out.old out.new) }
         ensures snapshot { IfOk result (λ snapshot. IsSnapshotOf (arc_value snapshot) self.old.lowers []) }
+        ensures quiet { Quiet (D.state disk.old) (D.state disk.new) }
         ensures failed { IsErrOf result reads.Failed → D.faults disk.old < D.faults disk.new }
         ensures later { D.faults disk.old ≤ D.faults disk.new }
     {

@@ -8,8 +8,10 @@ use Rattle.flat_image.specs.Left.{stand}
 use Rattle.top_writer.specs.Gaps.{IsHole, AreGaps}
 use Rattle.top_writer.specs.Stands.{unchanged, as_before}
 use Rattle.top_writer.proofs.Going.{goes_same}
+use Rattle.top_writer.proofs.QuietLaws.{quiet_none}
 use Rattle.image_core.specs.Shows.{epoch_of, parent_asked}
 use Rattle.image_core.proofs.StepGoes.{goes-noted, goes-refused, counts-clean, counts-fault, keeps-before, quiet-goes}
+use Rattle.image_core.proofs.Planned.{plan-reads}
 use Rattle.image_core.proofs.parts.Parts.plan.Goals as goal
 
 pub returns-in_default-clause-goes : goal.returns-in_default-clause-goes
@@ -30,6 +32,14 @@ pub returns-in-Ok-read_part-clause-bytes : goal.returns-in-Ok-read_part-clause-b
 returns-in-Ok-read_part-clause-bytes g c told base history k =
     let b = now base history in
     c.in-Ok-read_part.ensures.bytes told b.sectors (parent_asked (epoch_of b) b.lowers) (stand b) k.tops k.fits.top
+
+pub returns-in-Ok-read_part-clause-image : goal.returns-in-Ok-read_part-clause-image
+returns-in-Ok-read_part-clause-image g c told base history k =
+    plan-reads g.D.Disk.tells (g.D.Disk.state c.args.disk.now) (g.D.Disk.faults c.args.disk.now) c.args.self.now base history c.args.extent.at c.args.extent.count
+    c.args.out.now c.read_part.new.out k c.requires.size c.requires.within (returns-in-Ok-read_part-clause-bytes g c told base history k)
+
+pub returns-in_default-clause-quiet : goal.returns-in_default-clause-quiet
+returns-in_default-clause-quiet g c = quiet_none (g.D.Disk.state c.args.disk.now) (λ files left. g.met.D.Disk.now_at c.args.disk.now files left)
 
 pub returns-in-Ok-read_part-clause-gaps : goal.returns-in-Ok-read_part-clause-gaps
 returns-in-Ok-read_part-clause-gaps g c base history k =
