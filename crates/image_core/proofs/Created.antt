@@ -6,7 +6,7 @@ use Rattle.std.proofs.lemmas.List.{append-nil, length-replicate}
 use Rattle.std.proofs.lemmas.List.Elements.{All-head, All-tail, All-replicate}
 use Rattle.std.proofs.lemmas.Grind.{get_or_head}
 use Rattle.block_disk.specs.DiskState.{DiskState, Spares}
-use Rattle.gate_mark.specs.Mark.{file_of, IsKept, MayHold}
+use Rattle.gate_mark.specs.Mark.{file_of, sequence_in, IsKept, MayHold}
 use Rattle.lsmt_header.specs.Blocks.{IsSize, nil}
 use Rattle.sealed_layer.specs.Layers.{LayerIndex}
 use Rattle.flat_image.specs.declared.base.Base.{Base}
@@ -101,10 +101,10 @@ module _ (n : ℕ) (files : List (List ℕ)) (layers : List LayerIndex) (faults 
       → IsSnapshotOf (arc_value p.snapshot) layers [] → (length slice ≡ 0 → parent ≡ nil)
       → ((d : LayerIndex) (i : ℕ) → i + 1 ≡ length slice → parent ≡ (slice_index_or slice i d).head.uuid)
       → TopFits tells mid n (Some parent) p.top (fresh_stand n) (fresh_stand n ∷ []) → epoch_of p.top ≡ 0 → sequence_of p.top ≡ 1
-      → Spares (λ f. f ≡ manifest_file) mid disk → file_of p.manifest ≡ manifest_file → IsKept disk p.manifest
+      → Spares (λ f. f ≡ manifest_file) mid disk → file_of p.manifest ≡ manifest_file → sequence_in p.manifest ≡ 1 → IsKept disk p.manifest
       → ((b : List ℕ) → MayHold p.manifest b → b ≡ body) → Names body 0 None n
       → ImageStands tells disk faults p (fresh_at n files faults) []
-  created tells mid disk p parent body slice same lowers steps snapshot none some top epoch sequence spares file kept bodies names =
+  created tells mid disk p parent body slice same lowers steps snapshot none some top epoch sequence spares file made kept bodies names =
       let uppermost : parent ≡ top_uuid files =
       files-parent files layers parent are (λ empty. none (ap (length {A = LayerIndex}) same ∙ empty))
       (λ d i last. some d i (last ∙ sym (ap (length {A = LayerIndex}) same)) ∙ ap (λ (l : List LayerIndex). (slice_index_or l i d).head.uuid) same) in
@@ -117,6 +117,7 @@ module _ (n : ℕ) (files : List (List ℕ)) (layers : List LayerIndex) (faults 
         failed = omega arith;
         steps = steps;
         low = omega (arith, sequence);
+        manifest_low = omega (arith, made);
         tops = fresh_stand n ∷ [];
         fits = record {
           sound = fresh-sound;

@@ -7,7 +7,7 @@ use Rattle.std.proofs.lemmas.List.{take_more, get_or-map, length-map, length-rev
 use Rattle.std.proofs.lemmas.Grind.{get_or_head}
 use Rattle.block_disk.specs.DiskState.{DiskState, Files}
 use Rattle.block_disk.specs.Claims.{Quiet}
-use Rattle.gate_mark.specs.Mark.{file_of, IsKept, MayHold}
+use Rattle.gate_mark.specs.Mark.{file_of, sequence_in, IsKept, MayHold}
 use Rattle.lsmt_header.specs.declared.head.Head.{Head}
 use Rattle.lsmt_header.specs.Blocks.{IsSize, nil}
 use Rattle.sealed_layer.specs.Layers.{LayerIndex}
@@ -118,12 +118,12 @@ pub loaded : (tells : Bool) (old mid new : DiskState) (faults : ℕ) (p : Parts)
     → AreLayersOf files layers → length layers ≤ 255 → HaveSize n layers → AreStackOrNone layers → slice ≡ layers → p.lowers ≡ layers → p.steps ≡ 0
     → IsSnapshotOf (arc_value p.snapshot) layers [] → (length slice ≡ 0 → parent ≡ nil)
     → ((d : LayerIndex) (i : ℕ) → i + 1 ≡ length slice → parent ≡ (slice_index_or slice i d).head.uuid)
-    → Quiet old mid → Quiet mid new → file_of p.manifest ≡ manifest_file → IsKept mid p.manifest → ((b : List ℕ) → MayHold p.manifest b → b ≡ body)
+    → Quiet old mid → Quiet mid new → file_of p.manifest ≡ manifest_file → sequence_in p.manifest ≤ 2 ^ 61 → IsKept mid p.manifest → ((b : List ℕ) → MayHold p.manifest b → b ≡ body)
     → (IsTrue tells → HasManifest old.seen body) → IsBareBody body → n ≡ size_said body
     → (¬ IsTrue tells → s.cells ≡ blank_sheet n (table_of p.top).segments)
     → TopFits tells new n (Some parent) p.top s (s ∷ []) → (IsTrue tells → ShowsTop n (Some parent) s (stored_in 0 mid.seen)) → epoch_of p.top ≡ 0 → sequence_of p.top ≤ 2 ^ 61
     → IsLoaded tells old new faults files p
-loaded tells old mid new faults p n files layers slice parent body s are few sizes stack same lowers steps snapshot none some first second file kept bodies manifest bare size blank top shows epoch low =
+loaded tells old mid new faults p n files layers slice parent body s are few sizes stack same lowers steps snapshot none some first second file unworn kept bodies manifest bare size blank top shows epoch low =
     let length_is : length slice ≡ length layers = ap (length {A = LayerIndex}) same in
     let uppermost : parent ≡ top_uuid files =
     files-parent files layers parent are (λ empty. none (length_is ∙ empty))
@@ -175,6 +175,7 @@ loaded tells old mid new faults p n files layers slice parent body s are few siz
         failed = omega arith;
         steps = steps;
         low = omega (arith, low);
+        manifest_low = unworn;
         tops = s ∷ [];
         fits = record {
           sound = b_sound;

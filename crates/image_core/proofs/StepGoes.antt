@@ -1,12 +1,12 @@
 -- Steps of an image that are calls on its top.
-use Rattle.std.proofs.Common.{◌≡◌, ℕ, ◌+◌, ◌*◌, ◌≤◌, inl, inr, Bool, false, List, [], ◌∷◌, ◌++◌, length, refl, sym, ap, ◌∙◌, subst, arith, length-append}
+use Rattle.std.proofs.Common.{◌≡◌, ℕ, ◌+◌, ◌*◌, ◌^◌, ◌≤◌, inl, inr, Bool, false, List, [], ◌∷◌, ◌++◌, length, refl, sym, ap, ◌∙◌, subst, arith, length-append}
 use Rattle.std.specs.Prelude.{All, Option, Some, None}
 use Rattle.std.specs.Arc.{arc_value}
 use Rattle.std.proofs.lemmas.List.Elements.{All-nil}
 use Rattle.block_disk.specs.DiskState.{DiskState, Files, Leaves}
 use Rattle.block_disk.specs.Claims.{LeavesOnly, Beside, Quiet}
 use Rattle.block_disk.proofs.Moments.{by_quiet}
-use Rattle.gate_mark.specs.Mark.{IsKept, MayHold}
+use Rattle.gate_mark.specs.Mark.{sequence_in, IsKept, MayHold}
 use Rattle.flat_image.specs.declared.act.Act.{Act}
 use Rattle.flat_image.specs.declared.act.Act.TheVariants.{Flush, Fault}
 use Rattle.flat_image.specs.declared.act.Asked.TheVariants.{Nothing}
@@ -116,6 +116,7 @@ goes-noted tells old new faults later p q becomes leaves act same steps goes is 
         failed = counts base history number k.failed;
         steps = steps ∙ (let e : p.steps + 1 ≡ length (history ++ entry number act ∷ []) = omega (arith, k.steps, length-append history (entry number act ∷ [])) in e);
         low = omega (arith, goes.sequence, k.low, steps);
+        manifest_low = subst (λ m. sequence_in m ≤ 2 ^ 61) (sym same.manifest) k.manifest_low;
         tops = leaves (stand b) k.tops;
         fits = subst (λ (c : Base). PartsFit tells new q c (leaves (stand b) k.tops)) (sym (now-entry base history number act ∙ is b)) after;
         kept = keeping base history number k.tops k.kept;
@@ -134,6 +135,7 @@ goes-refused tells old new faults later p q same steps sequence rise goes = reco
     failed = omega (arith, k.failed, rise);
     steps = steps ∙ k.steps;
     low = omega (arith, sequence, k.low, steps);
+    manifest_low = subst (λ m. sequence_in m ≤ 2 ^ 61) (sym same.manifest) k.manifest_low;
     tops = k.tops;
     fits = fits-after tells old new p q unchanged as_before same goes (now base history) k.tops k.fits;
     kept = k.kept;

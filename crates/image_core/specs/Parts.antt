@@ -3,7 +3,7 @@ use Rattle.std.specs.Prelude.{◌≡◌, ℕ, ◌+◌, ◌^◌, ◌≤◌, List,
 use Rattle.std.specs.Arc.{arc_value}
 use Rattle.block_disk.specs.DiskState.{DiskState, Files}
 use Rattle.block_disk.specs.Claims.{LeavesOnly}
-use Rattle.gate_mark.specs.Mark.{file_of, IsKept, MayHold}
+use Rattle.gate_mark.specs.Mark.{file_of, sequence_in, IsKept, MayHold}
 use Rattle.flat_image.specs.declared.act.Act.{Act}
 use Rattle.flat_image.specs.declared.act.Act.TheVariants.{Fault}
 use Rattle.flat_image.specs.declared.act.Asked.TheVariants.{Nothing}
@@ -64,6 +64,7 @@ pub record ImageStands (tells : Bool) (disk : DiskState) (faults : ℕ) (p : Par
   pub failed : base.faults + fault_count history ≤ faults
   pub steps : p.steps ≡ length history
   pub low : sequence_of p.top ≤ 2 ^ 61 + p.steps
+  pub manifest_low : sequence_in p.manifest ≤ 2 ^ 61
   pub tops : List Stand
   pub fits : PartsFit tells disk p (now base history) tops
   pub kept : All (KeptStand base history) tops

@@ -47,6 +47,6 @@ returns-clause-stands g c files are =
     are c.requires.few (subst (HaveSize c.in-Some.sectors) c.as_slice.ensures c.in_ok-check_lowers.ensures.ok.0) (subst AreStackOrNone c.as_slice.ensures c.in_ok-check_lowers.ensures.ok.1)
     c.as_slice-2.ensures refl refl (subst (λ l. IsSnapshotOf (arc_value c.in-Ok-snapshot_of.snapshot) l []) c.as_slice-3.ensures c.in-Ok-snapshot_of.ensures)
     c.parent_of-parent.ensures.none c.parent_of-parent.ensures.some c.load_manifest.ensures.quiet c.load.ensures.quiet
-    c.in_ok-manifest.ensures.mark.0 c.in_ok-manifest.ensures.kept c.in_ok-manifest.ensures.bodies c.in_ok-manifest.ensures.shows
+    c.in_ok-manifest.ensures.mark.0 c.in_ok-manifest.ensures.mark.1 c.in_ok-manifest.ensures.kept c.in_ok-manifest.ensures.bodies c.in_ok-manifest.ensures.shows
     (subst IsBareBody c.get.ensures c.in-Some.ensures.some.0) (c.in-Some.ensures.some.1 ∙ ap size_said c.get.ensures)
     shows.3 shows.1 shows.2 c.in-Ok.ensures.is.0 c.in-Ok.ensures.is.2
