@@ -123,7 +123,8 @@ impl<D: Disk> Image<D> {
     }
 
     /// Writes the sectors of an extent within the image. They are kept from the next flush on. A
-    /// refusal as being full, or for want of memory, changes nothing.
+    /// refusal as being full, or for want of memory, changes nothing of the image and nothing of the
+    /// disk.
     pub fn write(&mut self, extent: Extent, bytes: &[u8]) -> Result<(), WriteFault>
         requires standing { IsStanding D.tells (D.state self.old.disk) (D.faults self.old.disk) self.old.parts }
         requires size { length bytes.now ≡ 512 * extent.count }
@@ -133,6 +134,9 @@ impl<D: Disk> Image<D> {
         ensures full { IsOver ((parts_view self.old.parts).rows + rows_for extent.count) ((parts_view self.old.parts).filled + extent.count)
             ↔ (result ≡ Err (Full (parts_view self.old.parts).rows (parts_view self.old.parts).filled)) }
         ensures only { (rows sectors : ℕ) → result ≡ Err (Full rows sectors) → (rows ≡ (parts_view self.old.parts).rows) × (sectors ≡ (parts_view self.old.parts).filled) }
+        ensures same { OnErr result (¬ IsErrOf result Failed → parts_view self.new.parts ≡ parts_view self.old.parts) }
+        // a refusal that is not the disk's comes before the disk is called
+        ensures spared { OnErr result (¬ IsErrOf result Failed → self.new.disk ≡ self.old.disk) }
         ensures failed { IsErrOf result Failed → D.faults self.old.disk < D.faults self.new.disk }
         ensures later { D.faults self.old.disk ≤ D.faults self.new.disk }
     {
@@ -149,6 +153,7 @@ impl<D: Disk> Image<D> {
         ensures full { IsOver ((parts_view self.old.parts).rows + rows_for extent.count) (parts_view self.old.parts).filled
             ↔ (result ≡ Err (Full (parts_view self.old.parts).rows (parts_view self.old.parts).filled)) }
         ensures only { (rows sectors : ℕ) → result ≡ Err (Full rows sectors) → (rows ≡ (parts_view self.old.parts).rows) × (sectors ≡ (parts_view self.old.parts).filled) }
+        ensures same { OnErr result (parts_view self.new.parts ≡ parts_view self.old.parts) }
         ensures failed { IsErrOf result Failed → ⊥ }
     {
         self.parts.zero(&self.disk, extent)

@@ -1,5 +1,5 @@
 //! The image without its disk.
-ghost use Rattle.std.specs.Prelude.{◌≡◌, ℕ, ◌+◌, ◌*◌, ◌^◌, ◌<◌, ◌≤◌, ◌↔◌, [], length, Err, IsTrue, IfOk, OnOk, IsErrOf};
+ghost use Rattle.std.specs.Prelude.{◌≡◌, ℕ, ◌+◌, ◌*◌, ◌^◌, ◌<◌, ◌≤◌, ◌↔◌, [], length, Err, IsTrue, IfOk, OnOk, OnErr, IsErrOf};
 ghost use Rattle.std.specs.Arc.{arc_value};
 ghost use Rattle.sector_extent.specs.Causes.{HasCause};
 ghost use Rattle.sector_extent.specs.Rows.{rows_for};
@@ -13,7 +13,7 @@ ghost use Rattle.top_writer.specs.View.{sectors_of, rows_used, sectors_used};
 ghost use Rattle.block_disk.specs.Claims.{Quiet};
 ghost use Rattle.image_core.specs.Pieces.{IsSnapshotOf};
 ghost use Rattle.image_core.specs.Planning.{IsPlanOf};
-ghost use Rattle.image_core.specs.Parts.{ImageStands, IsStanding, Goes, noted_change, noted_call, noted_read};
+ghost use Rattle.image_core.specs.Parts.{parts_view, ImageStands, IsStanding, Goes, noted_change, noted_call, noted_read};
 
 use crate::snapshot::Snapshot;
 use block_disk::{Disk, DiskFailed};
@@ -54,6 +54,8 @@ impl Parts {
         ensures full { IsOver (rows_used self.old.top + rows_for extent.count) (sectors_used self.old.top + extent.count)
             ↔ (result ≡ Err (Full (rows_used self.old.top) (sectors_used self.old.top))) }
         ensures only { (rows sectors : ℕ) → result ≡ Err (Full rows sectors) → (rows ≡ rows_used self.old.top) × (sectors ≡ sectors_used self.old.top) }
+        ensures same { OnErr result (¬ IsErrOf result Failed → parts_view self.new ≡ parts_view self.old) }
+        ensures spared { OnErr result (¬ IsErrOf result Failed → disk.new ≡ disk.old) }
         ensures failed { IsErrOf result Failed → D.faults disk.old < D.faults disk.new }
         ensures later { D.faults disk.old ≤ D.faults disk.new }
     {
@@ -80,6 +82,7 @@ impl Parts {
         ensures full { IsOver (rows_used self.old.top + rows_for extent.count) (sectors_used self.old.top)
             ↔ (result ≡ Err (Full (rows_used self.old.top) (sectors_used self.old.top))) }
         ensures only { (rows sectors : ℕ) → result ≡ Err (Full rows sectors) → (rows ≡ rows_used self.old.top) × (sectors ≡ sectors_used self.old.top) }
+        ensures same { OnErr result (parts_view self.new ≡ parts_view self.old) }
         ensures failed { IsErrOf result Failed → ⊥ }
     {
         let _disk = disk;

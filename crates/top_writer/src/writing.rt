@@ -31,7 +31,8 @@ fn is_over(rows: u64, sectors: u64) -> bool
 
 impl Top {
     /// Writes the sectors of an extent. They stand in the data file then, and are kept from the next
-    /// flush on. A refusal changes nothing of the top.
+    /// flush on. A refusal changes nothing of the top, and as being full or for want of memory nothing
+    /// of the disk.
     pub fn write<D: Disk>(
         &mut self,
         disk: &mut D,
@@ -48,6 +49,9 @@ impl Top {
         ensures only { (rows sectors : ℕ) → result ≡ Err (Full rows sectors) → (rows ≡ rows_used self.old) × (sectors ≡ sectors_used self.old) }
         ensures fitted { IsFitted D.tells (D.state disk.new) self.new }
         ensures mark { (view_of self.new).mark ≡ (view_of self.old).mark }
+        ensures same { OnErr result (view_of self.new ≡ view_of self.old) }
+        // a refusal that is not the disk's comes before the disk is called
+        ensures spared { OnErr result (¬ IsErrOf result Failed → disk.new ≡ disk.old) }
         ensures failed { IsErrOf result Failed → D.faults disk.old < D.faults disk.new }
         ensures later { D.faults disk.old ≤ D.faults disk.new }
     {
