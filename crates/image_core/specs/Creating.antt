@@ -1,18 +1,18 @@
 -- What an image is made over.
-use Rattle.std.specs.Prelude.{◌≡◌, ◌≢◌, ℕ, ◌≤◌, ◌⊎◌, List, length, map, All, Result, Err, None}
+use Rattle.std.specs.Prelude.{◌≡◌, ◌≢◌, ℕ, ◌≤◌, ◌⊎◌, List, length, Result, Err, None}
 use Rattle.gate_mark.specs.MarkFile.{mark_of}
 use Rattle.flat_image.specs.declared.base.Base.{Base}
 use Rattle.flat_image.specs.Base.{fresh}
-use Rattle.flat_image.specs.Stacks.{Legal}
 use Rattle.sealed_layer.specs.Layers.{LayerIndex}
 use Rattle.image_core.specs.declared.creating.CreateFault.{CreateFault}
 use Rattle.image_core.specs.declared.creating.CreateFault.TheVariants.{Exists, Failed}
+use Rattle.image_core.specs.Loading.{HaveSize, AreStackOrNone}
 
 -- the layers, the lowest first, have n sectors each and form a stack, or there are none
 pub record AreLegal (n : ℕ) (layers : List LayerIndex) : Type 0 where
   pub few : length layers ≤ 255
-  pub sizes : All (λ layer. layer.head.sectors ≡ n) layers
-  pub legal : 1 ≤ length layers → Legal (map (λ layer. layer.head) layers)
+  pub sizes : HaveSize n layers
+  pub legal : AreStackOrNone layers
 
 -- an image over these layers in which nothing was written, opened at that count of faults
 abbrev pub fresh_at : ℕ → List (List ℕ) → ℕ → Base

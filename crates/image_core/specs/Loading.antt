@@ -1,12 +1,12 @@
 -- Why files are no image without commits over lower layers: the first of these, in the order in which they are looked at.
-use Rattle.std.specs.Prelude.{◌≡◌, ℕ, ◌^◌, ◌<◌, ◌≤◌, List, [], ◌∷◌, length, map, All, Some, None, ◌⊎◌, Bool, IsTrue, ⊤}
+use Rattle.std.specs.Prelude.{◌≡◌, ℕ, ◌^◌, ◌<◌, ◌≤◌, List, [], length, map, All, Some, None, ◌⊎◌, Bool, IsTrue, ⊤}
 use Rattle.block_disk.specs.DiskState.{DiskState, Files}
 use Rattle.gate_mark.specs.MarkFile as marks
 use Rattle.lsmt_header.specs.declared.head.Head.{Head}
 use Rattle.lsmt_header.specs.Blocks.{IsSize, nil}
 use Rattle.sealed_layer.specs.Layers.{LayerIndex}
 use Rattle.flat_image.specs.Stacks.{Legal}
-use Rattle.layer_stack.specs.Faults.{IsStackFault}
+use Rattle.layer_stack.specs.Faults.{top_uuid, IsStackFault}
 use Rattle.top_writer.specs.Files.{stored_in}
 use Rattle.top_writer.specs.Reasons.{IsReason}
 use Rattle.image_core.specs.declared.loading.LoadFault.{LoadFault}
@@ -24,9 +24,7 @@ abbrev pub heads_in : List LayerIndex → List Head
 heads_in layers = map (λ l. l.head) layers
 
 abbrev pub upper_uuid : List LayerIndex → List ℕ
-upper_uuid [] = nil
-upper_uuid (layer ∷ []) = layer.head.uuid
-upper_uuid (layer ∷ next ∷ layers) = upper_uuid (next ∷ layers)
+upper_uuid layers = top_uuid nil (heads_in layers)
 
 -- the body of a manifest of an image in which nothing is committed, and no commit is in progress
 pub record IsBareBody (body : List ℕ) : Type 0 where
