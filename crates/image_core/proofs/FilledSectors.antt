@@ -1,12 +1,13 @@
 -- Sectors of bytes that are filled in part.
 use Rattle.std.proofs.Common.{◌≡◌, ℕ, suc, ◌+◌, ◌-◌, ◌*◌, ◌<◌, ◌≤◌, List, [], ◌∷◌, ◌++◌, length, take, drop, refl, sym, ap, subst, ◌∙◌, arith, inl, inr}
-use Rattle.std.specs.Prelude.{All, slice_index_or, replicate}
+use Rattle.std.specs.Prelude.{Option, IfSome, All, slice_index_or, replicate}
 use Rattle.std.proofs.Math.Seq.{drop-append-add}
 use Rattle.std.proofs.lemmas.List.{take-append-drop, drop-append-le, take-append-le, drop-drop, drop-take, take-take, length-drop, length-take-le, drop-replicate, take-replicate}
 use Rattle.std.proofs.lemmas.List.Elements.{All-nil, All-cons, All-tail}
 use Rattle.std.proofs.lemmas.Bool.Decides.{leb_tells}
 use Rattle.sector_extent.specs.declared.extent.Extent.{Extent}
 use Rattle.layer_shelf.specs.Shelves.{file_at}
+use Rattle.sealed_layer.proofs.Told.{IfSome-both}
 use Rattle.flat_image.specs.Sheets.{IsSector, zero_sector, bytes_of}
 use Rattle.flat_image.specs.RowCells.{sector_at}
 use Rattle.merged_index.specs.declared.piece.PieceWhat.{PieceWhat}
@@ -14,7 +15,7 @@ use Rattle.merged_index.specs.declared.piece.PieceWhat.TheVariants.{Hole, Zero, 
 use Rattle.merged_index.specs.Pieces.{onward}
 use Rattle.merged_index.specs.Painting.{sector_of, bytes_by}
 use Rattle.top_writer.specs.Gaps.{AreGaps}
-use Rattle.image_core.specs.Whole.{IsFilled, AreFilled, LiesIn}
+use Rattle.image_core.specs.Whole.{sectors_by, IsFilled, AreFilled, LiesIn}
 
 -- nothing is filled
 pub fills-none : (said : ℕ → List ℕ) (at from until : ℕ) (bytes : List ℕ) → from ≡ until → IsFilled said at from until bytes bytes
@@ -47,6 +48,13 @@ fills-as said other at from until old new same is = record {
   before = is.before;
   behind = is.behind;
 }
+
+-- and so in the files that a shelf tells, before and now
+pub fills-on : (told now_told : Option (List (List ℕ))) (cells : ℕ → PieceWhat) (at from mid until : ℕ) (first second third : List ℕ) → now_told ≡ told
+    → IfSome told (λ files. IsFilled (sectors_by files cells) at from mid first second) → IfSome now_told (λ files. IsFilled (sectors_by files cells) at mid until second third)
+    → IfSome told (λ files. IsFilled (sectors_by files cells) at from until first third)
+fills-on told now_told cells at from mid until first second third same one two =
+    IfSome-both told now_told same one two (λ files is so_far more. fills-then (sectors_by files cells) at from mid until first second third so_far more)
 
 -- a sector of the first of two parts, and of the second
 sector-left : (x y : List ℕ) (k : ℕ) → 512 * k + 512 ≤ length x → sector_at (x ++ y) k ≡ sector_at x k
@@ -129,11 +137,18 @@ module _ (files : List (List ℕ)) (what : PieceWhat) (at from n a c : ℕ) (old
   piece-filled = record { order = omega arith; inside = inside; before = before; behind = behind }
 
 -- one extent more is filled
-pub filled-more : (said : ℕ → List ℕ) (at : ℕ) (extents : List Extent) (extent : Extent) (old mid new : List ℕ) → AreFilled said at extents old mid
+filled-more : (said : ℕ → List ℕ) (at : ℕ) (extents : List Extent) (extent : Extent) (old mid new : List ℕ) → AreFilled said at extents old mid
     → IsFilled said at extent.at (extent.at + extent.count) mid new → AreFilled said at (extents ++ extent ∷ []) old new
 filled-more said at [] extent old mid new are is =
     (new, subst (λ (bytes : List ℕ). IsFilled said at extent.at (extent.at + extent.count) bytes new) are is, refl)
 filled-more said at (first ∷ extents) extent old mid new are is = (are.0, are.1, filled-more said at extents extent are.0 mid new are.2 is)
+
+pub filled-on : (told now_told : Option (List (List ℕ))) (cells : ℕ → PieceWhat) (at : ℕ) (extents : List Extent) (extent : Extent) (old mid new : List ℕ) → now_told ≡ told
+    → IfSome told (λ files. AreFilled (sectors_by files cells) at extents old mid)
+    → IfSome now_told (λ files. IsFilled (sectors_by files cells) at extent.at (extent.at + extent.count) mid new)
+    → IfSome told (λ files. AreFilled (sectors_by files cells) at (extents ++ extent ∷ []) old new)
+filled-on told now_told cells at extents extent old mid new same one two =
+    IfSome-both told now_told same one two (λ files is so_far more. filled-more (sectors_by files cells) at extents extent old mid new so_far more)
 
 -- what the gaps of a range become, and what stays between them
 pub record AreGapsFilled (said : ℕ → List ℕ) (hole : ℕ → Type 0) (at from until : ℕ) (old new : List ℕ) : Type 0 where

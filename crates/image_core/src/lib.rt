@@ -29,3 +29,5 @@ mod steps_tests;
 mod table_tests;
 #[cfg(test)]
 mod tests;
+#[cfg(test)]
+mod whole_tests;

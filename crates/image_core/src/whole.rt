@@ -127,7 +127,6 @@ fn fill<S: Shelf>(
         }
         PieceWhat::Hole | PieceWhat::Zero => piece.fill(0),
     }
-    let _count = count;
     Ok(())
 }
 

@@ -1,8 +1,9 @@
 use Rattle.std.proofs.Common.{ℕ, ◌+◌, ◌∙◌, refl, sym, subst, arith, length}
-use Rattle.sealed_layer.proofs.Told.{IfSome-each, IfSome-both}
+use Rattle.std.proofs.lemmas.Option.{IfSome_then}
+use Rattle.sealed_layer.proofs.Told.{IfSome-each}
 use Rattle.merged_index.specs.Cells.{cells_of}
 use Rattle.image_core.specs.Whole.{sectors_by, AreOnShelf}
-use Rattle.image_core.proofs.FilledSectors.{fills-none, fills-then}
+use Rattle.image_core.proofs.FilledSectors.{fills-none, fills-on}
 use Rattle.image_core.proofs.PendingRuns.{pending-none, run-filled}
 use Rattle.image_core.proofs.snapshot.Snapshot.read_gap.Goals as goal
 
@@ -31,9 +32,8 @@ loop-shelf-preserved g c =
     record {
       within = c.in_ok-run.ensures.within;
       pending = c.in_ok-run.ensures.pending;
-      filled = IfSome-both (g.S.Shelf.files c.args.shelf.now) (g.S.Shelf.files c.loop-shelf.shelf) before.files before.filled c.in_ok-run.ensures.filled
-          (λ files told so_far more. fills-then (sectors_by files cells) c.args.at c.args.gap.now.at c.loop-shelf.run.extent.at c.in_ok-run.run'.extent.at
-          c.args.out.now c.loop-shelf.out c.read_on.new.out so_far more);
+      filled = fills-on (g.S.Shelf.files c.args.shelf.now) (g.S.Shelf.files c.loop-shelf.shelf) cells c.args.at c.args.gap.now.at c.loop-shelf.run.extent.at
+          c.in_ok-run.run'.extent.at c.args.out.now c.loop-shelf.out c.read_on.new.out before.files before.filled c.in_ok-run.ensures.filled;
       files = c.read_on.ensures.same_files ∙ before.files;
       count = c.read_on.ensures.same_count ∙ before.count;
       faults = omega (arith, c.read_on.ensures.cause.later, before.faults);
@@ -44,8 +44,9 @@ returns-clause-filled g c =
     let cells = cells_of c.args.self.now.index in
     let before = c.loop-shelf.invariant in
     let end = c.args.gap.now.at + c.args.gap.now.count in
-    IfSome-both (g.S.Shelf.files c.args.shelf.now) (g.S.Shelf.files c.loop-shelf.shelf) before.files before.filled c.in_ok-read_run.ensures.filled
-    (λ files told so_far more. fills-then (sectors_by files cells) c.args.at c.args.gap.now.at c.loop-shelf.run.extent.at end
-    c.args.out.now c.loop-shelf.out c.read_run.new.out so_far
-    (run-filled files (g.S.Shelf.count c.loop-shelf.shelf) cells c.args.at (length c.loop-shelf.out) c.loop-shelf.run end c.loop-shelf.out c.read_run.new.out before.pending
-    (omega (arith, before.within, c.loop-shelf-test.false, c.end.ensures, c.end-in-loop-shelf.ensures)) more))
+    let now_told = g.S.Shelf.files c.loop-shelf.shelf in
+    fills-on (g.S.Shelf.files c.args.shelf.now) now_told cells c.args.at c.args.gap.now.at c.loop-shelf.run.extent.at end
+    c.args.out.now c.loop-shelf.out c.read_run.new.out before.files before.filled
+    (IfSome_then now_told c.in_ok-read_run.ensures.filled (λ files is.
+    run-filled files (g.S.Shelf.count c.loop-shelf.shelf) cells c.args.at (length c.loop-shelf.out) c.loop-shelf.run end c.loop-shelf.out c.read_run.new.out before.pending
+    (omega (arith, before.within, c.loop-shelf-test.false, c.end.ensures, c.end-in-loop-shelf.ensures)) is))

@@ -1,11 +1,11 @@
-use Rattle.std.proofs.Common.{List, ℕ, ◌≡◌, ◌+◌, ◌++◌, ◌∙◌, [], ◌∷◌, refl, sym, ap, subst, arith, length, take}
+use Rattle.std.proofs.Common.{IfSome, List, ℕ, ◌≡◌, ◌+◌, ◌++◌, ◌∙◌, [], ◌∷◌, refl, sym, ap, subst, arith, length, take}
 use Rattle.std.proofs.lemmas.Option.{IfSome_then}
 use Rattle.std.proofs.lemmas.List.{take_more, take_all}
-use Rattle.sealed_layer.proofs.Told.{IfSome-each, IfSome-both}
+use Rattle.sealed_layer.proofs.Told.{IfSome-each}
 use Rattle.sector_extent.specs.declared.extent.Extent.{Extent}
 use Rattle.merged_index.specs.Cells.{cells_of}
 use Rattle.image_core.specs.Whole.{sectors_by, AreFilled, LiesIn, AreOnShelf}
-use Rattle.image_core.proofs.FilledSectors.{filled-more}
+use Rattle.image_core.proofs.FilledSectors.{filled-on}
 use Rattle.image_core.proofs.snapshot.Snapshot.read_gaps.Goals as goal
 
 pub loop-gap-init : goal.loop-gap-init
@@ -32,9 +32,9 @@ loop-gap-preserved g c =
     let more : take (c.loop-gap.gap-index + 1) c.args.gaps.now ≡ take c.loop-gap.gap-index c.args.gaps.now ++ gap ∷ [] =
     take_more c.args.gaps.now c.loop-gap.gap-index gap c.loop-gap-test.true ∙ ap (λ (e : Extent). take c.loop-gap.gap-index c.args.gaps.now ++ e ∷ []) (sym c.gap-item.is) in
     record {
-      filled = IfSome-both (g.S.Shelf.files c.args.shelf.now) (g.S.Shelf.files c.loop-gap.shelf) before.files before.filled c.in_ok-read_gap.ensures.filled
-          (λ files told so_far is. subst (λ (gaps : List Extent). AreFilled (sectors_by files cells) c.args.at gaps c.args.out.now c.read_gap.new.out) (sym more)
-          (filled-more (sectors_by files cells) c.args.at (take c.loop-gap.gap-index c.args.gaps.now) gap c.args.out.now c.loop-gap.out c.read_gap.new.out so_far is));
+      filled = subst (λ (gaps : List Extent). IfSome (g.S.Shelf.files c.args.shelf.now) (λ files. AreFilled (sectors_by files cells) c.args.at gaps c.args.out.now c.read_gap.new.out)) (sym more)
+          (filled-on (g.S.Shelf.files c.args.shelf.now) (g.S.Shelf.files c.loop-gap.shelf) cells c.args.at (take c.loop-gap.gap-index c.args.gaps.now) gap
+          c.args.out.now c.loop-gap.out c.read_gap.new.out before.files before.filled c.in_ok-read_gap.ensures.filled);
       files = c.read_gap.ensures.same_files ∙ before.files;
       count = c.read_gap.ensures.same_count ∙ before.count;
       faults = omega (arith, c.read_gap.ensures.cause.later, before.faults);

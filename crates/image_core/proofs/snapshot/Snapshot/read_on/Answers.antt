@@ -1,10 +1,10 @@
 use Rattle.std.proofs.Common.{List, ℕ, ◌+◌, ◌∙◌, refl, sym, subst, arith, take, drop}
-use Rattle.sealed_layer.proofs.Told.{IfSome-each, IfSome-both}
+use Rattle.sealed_layer.proofs.Told.{IfSome-each}
 use Rattle.merged_index.specs.declared.piece.Piece.{Piece}
 use Rattle.merged_index.specs.Cells.{cells_of}
 use Rattle.merged_index.specs.Pieces.{AreCells, end_of}
 use Rattle.image_core.specs.Whole.{sectors_by, AreOnShelf}
-use Rattle.image_core.proofs.FilledSectors.{fills-none, fills-then}
+use Rattle.image_core.proofs.FilledSectors.{fills-none, fills-on}
 use Rattle.image_core.proofs.PendingRuns.{found-further, cells-at}
 use Rattle.image_core.proofs.snapshot.Snapshot.read_on.Goals as goal
 
@@ -59,9 +59,8 @@ loop-piece-preserved g c =
       within = before.within;
       cells = subst (λ (k : ℕ). AreCells cells k before.until (drop (c.loop-piece.piece-index + 1) c.split_at.result.0.now)) (sym c.in_ok-run.ensures.end) here.2;
       pending = c.in_ok-run.ensures.pending;
-      filled = IfSome-both (g.S.Shelf.files c.args.shelf.now) (g.S.Shelf.files c.loop-piece.shelf) before.files before.filled c.in_ok-run.ensures.filled
-          (λ files told so_far more. fills-then (sectors_by files cells) c.args.at c.args.run.now.extent.at c.loop-piece.run.extent.at c.in_ok-run.run'.extent.at
-          c.args.out.now c.loop-piece.out c.go_on.new.out so_far more);
+      filled = fills-on (g.S.Shelf.files c.args.shelf.now) (g.S.Shelf.files c.loop-piece.shelf) cells c.args.at c.args.run.now.extent.at c.loop-piece.run.extent.at
+          c.in_ok-run.run'.extent.at c.args.out.now c.loop-piece.out c.go_on.new.out before.files before.filled c.in_ok-run.ensures.filled;
       files = c.go_on.ensures.same_files ∙ before.files;
       count = c.go_on.ensures.same_count ∙ before.count;
       faults = omega (arith, c.go_on.ensures.cause.later, before.faults);
