@@ -12,13 +12,13 @@ use Rattle.flat_image.specs.RowCells.{sector_at}
 use Rattle.flat_image.specs.Frozen.{Frozen}
 use Rattle.flat_image.specs.Base.{sheet_list, image_of, IsLayerFile, IsBase}
 use Rattle.flat_image.specs.LayerReading.{sheet_in}
-use Rattle.flat_image.specs.History.{History, now, after}
+use Rattle.flat_image.specs.History.{History, now, after, committed}
 use Rattle.flat_image.proofs.HistoryLaws.{base-stays, after-is_image, now-lowers}
 use Rattle.flat_image.proofs.LayerLaws.{sheet_in-IsLayer, IsSheet-IsLayer}
 use Rattle.flat_image.proofs.Painting.{FitsIn, AreWhole, length-image_in, AreWhole-image_in, AreSectors-paint, length-flat, length-paint}
 use Rattle.top_writer.specs.Gaps.{Paints, IsHole}
 use Rattle.image_core.specs.declared.parts.Parts.{Parts}
-use Rattle.image_core.specs.Parts.{parts_view}
+use Rattle.image_core.specs.Parts.{parts_view, ImageStands}
 use Rattle.image_core.specs.Planning.{IsPlanned, PlanReads}
 
 -- a sector under a sheet
@@ -106,6 +106,25 @@ module _ (ground : List (List ℕ)) (top : List Cell) (n : ℕ) (long : length g
     left = λ k below hole. part-sector k below ∙ under-hole (sector_at old k) (slice_index_or top (at + k) Hole) hole;
     below = λ i below hole. whole-sector i (omega (arith, below, paint-long)) ∙ under-hole (slice_index_or ground i []) (slice_index_or top i Hole) hole;
   }
+
+-- where the top is a hole, whatever the disk tells, the image is that of the layers alone
+pub holes-below : (tells : Bool) (disk : DiskState) (faults : ℕ) (p : Parts) (base : Base) (history : History) (i : ℕ) → ImageStands tells disk faults p base history
+    → i < (parts_view p).sectors → IsHole (now base history).top i
+    → slice_index_or (after base history) i [] ≡ slice_index_or (flat (parts_view p).sectors (map sheet_in (base.lowers ++ committed base history))) i []
+holes-below tells disk faults p base history i stands below hole =
+    let b : Base = now base history in
+    let good : IsBase b = (base-stays base history stands.base_is stands.few stands.proper).0 in
+    let files : List (List ℕ) = b.lowers ++ b.done in
+    let ground : List (List ℕ) = flat b.sectors (map sheet_in files) in
+    let long : length ground ≡ b.sectors = length-flat b.sectors (map sheet_in files) (layers-fit b.sectors files good.layers) in
+    let sectors = stands.fits.top.holds.sectors in
+    let lows : b.lowers ≡ base.lowers = now-lowers base history in
+    let image : paint ground b.top ≡ after base history =
+    sym (image-over b stands.fits.none_frozen) ∙ after-is_image base history stands.base_is stands.few stands.proper in
+    let layers : ground ≡ flat (parts_view p).sectors (map sheet_in (base.lowers ++ b.done)) = λ i. flat (sym sectors i) (map sheet_in (lows i ++ b.done)) in
+    ap (λ (m : List (List ℕ)). slice_index_or m i []) (sym image)
+    ∙ (get_or-paint ground b.top i (omega (arith, below, sectors, long)) (omega (arith, below, sectors, good.top_is.count))
+    ∙ (under-hole (slice_index_or ground i []) (slice_index_or b.top i Hole) hole ∙ ap (λ (l : List (List ℕ)). slice_index_or l i []) layers))
 
 pub plan-reads : (tells : Bool) (disk : DiskState) (faults : ℕ) (p : Parts) (base : Base) (history : History) (at count : ℕ) (old new : List ℕ)
     → PlanReads tells disk faults p base history at count old new

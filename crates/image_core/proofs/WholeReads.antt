@@ -29,7 +29,7 @@ use Rattle.image_core.specs.Pieces.{SnapshotView, IsSnapshotOf}
 use Rattle.image_core.specs.Planning.{IsPlanned}
 use Rattle.image_core.specs.Whole.{sectors_by, AreFilled, AreOnShelf}
 use Rattle.image_core.specs.Loading.{HaveSize}
-use Rattle.image_core.proofs.Planned.{plan-reads}
+use Rattle.image_core.proofs.Planned.{plan-reads, holes-below}
 use Rattle.image_core.proofs.Reopening.{same-heads}
 use Rattle.image_core.proofs.FilledSectors.{AreGapsFilled, gaps-filled, bytes-are}
 
@@ -60,10 +60,9 @@ hole-or Hole = inl refl
 hole-or Zero = inr (λ e. cc)
 hole-or (Filled sector) = inr (λ e. cc)
 
-module _ (tells : Bool) (disk : DiskState) (faults : ℕ) (p : Parts) (base : Base) (history : History) (s : SnapshotView) (at count : ℕ) (old mid new : List ℕ) (gaps : List Extent)
-    (stands : ImageStands tells disk faults p base history) (is : IsSnapshotOf s p.lowers []) (size : length old ≡ 512 * count) (long : length new ≡ 512 * count)
-    (within : at + count ≤ (parts_view p).sectors) (paints : Paints (now base history).top at count old mid) (are : AreGaps (IsHole (now base history).top) at (at + count) gaps)
-    (filled : AreFilled (sectors_by base.lowers (cells_of s.index)) at gaps mid new) where
+module _ (tells : Bool) (disk : DiskState) (faults : ℕ) (p : Parts) (base : Base) (history : History) (s : SnapshotView) (at count : ℕ) (mid new : List ℕ) (gaps : List Extent)
+    (stands : ImageStands tells disk faults p base history) (is : IsSnapshotOf s p.lowers []) (within : at + count ≤ (parts_view p).sectors)
+    (are : AreGaps (IsHole (now base history).top) at (at + count) gaps) (filled : AreFilled (sectors_by base.lowers (cells_of s.index)) at gaps mid new) where
   abbrev b : Base
   b = now base history
 
@@ -99,32 +98,42 @@ module _ (tells : Bool) (disk : DiskState) (faults : ℕ) (p : Parts) (base : Ba
       ∙ (get_or-map-range_with_len (sectors_by b.lowers (cells_of s.index)) 0 b.sectors i i [] (omega (arith, below, sectors)) (omega arith)
       ∙ ap (λ (files : List (List ℕ)). sectors_by files (cells_of s.index) i) lows)
 
-  planned : IsPlanned image ground (IsHole b.top) at count old mid
-  planned =
-      let none : base.lowers ++ b.done ≡ base.lowers = ap (λ (d : List (List ℕ)). base.lowers ++ d) stands.fits.none_done ∙ append-nil base.lowers in
-      subst (λ (files : List (List ℕ)). IsPlanned image (flat n (map sheet_in files)) (IsHole b.top) at count old mid) none
-      (plan-reads tells disk faults p base history at count old mid stands size within paints)
-
   image-is : IsImage n image
   image-is =
       let good : IsBase b = (base-stays base history stands.base_is stands.few stands.proper).0 in
       let same : image_of b ≡ image = after-is_image base history stands.base_is stands.few stands.proper in
       subst (λ (k : ℕ). IsImage k image) (sym sectors) (subst (IsImage b.sectors) same (base-is_image b good))
 
-  sector : (k : ℕ) → k < count → sector_at new k ≡ slice_index_or image (at + k) []
-  sector k below =
-      let done : AreGapsFilled (sectors_by base.lowers (cells_of s.index)) (IsHole b.top) at at (at + count) mid new =
-      gaps-filled (sectors_by base.lowers (cells_of s.index)) (IsHole b.top) at at (at + count) gaps mid new are filled in
-      elim (hole-or (slice_index_or b.top (at + k) Hole)) [
-        | inl hole ↦
-            done.holes k (omega arith) (omega (arith, below)) hole
-            ∙ sym (planned.below (at + k) (omega (arith, below, within, image-is.count)) hole ∙ ground-sector (at + k) (omega (arith, below, within)))
-        | inr some ↦ done.others k (omega arith) (omega (arith, below)) some ∙ planned.read k below some
-      ]
+  -- what the gaps became
+  done : AreGapsFilled (sectors_by base.lowers (cells_of s.index)) (IsHole b.top) at at (at + count) mid new
+  done = gaps-filled (sectors_by base.lowers (cells_of s.index)) (IsHole b.top) at at (at + count) gaps mid new are filled
 
-  pub whole-reply : new ≡ reply base history at count
-  whole-reply =
-      let part : List (List ℕ) = take count (drop at image) in
-      let part_long : length part ≡ count = length-take-le count (drop at image) (omega (arith, length-drop at image, image-is.count, within)) in
-      bytes-are part new (All-take IsSector count (drop at image) (All-drop IsSector at image image-is.sectors)) (omega (arith, long, part_long))
-      (λ k below. sector k (omega (arith, below, part_long)) ∙ sym (get_or-take count (drop at image) k [] (omega (arith, below, part_long)) ∙ get_or-drop at image k []))
+  none-done : base.lowers ++ b.done ≡ base.lowers
+  none-done = ap (λ (d : List (List ℕ)). base.lowers ++ d) stands.fits.none_done ∙ append-nil base.lowers
+
+  pub whole-hole : (k : ℕ) → k < count → IsHole (now base history).top (at + k) → sector_at new k ≡ slice_index_or (after base history) (at + k) []
+  whole-hole k below hole =
+      done.holes k (omega arith) (omega (arith, below)) hole
+      ∙ sym (holes-below tells disk faults p base history (at + k) stands (omega (arith, below, within)) hole
+      ∙ ap (λ (files : List (List ℕ)). slice_index_or (flat n (map sheet_in files)) (at + k) []) none-done
+      ∙ ground-sector (at + k) (omega (arith, below, within)))
+
+  module _ (old : List ℕ) (size : length old ≡ 512 * count) (long : length new ≡ 512 * count) (paints : Paints (now base history).top at count old mid) where
+    planned : IsPlanned image ground (IsHole b.top) at count old mid
+    planned =
+        subst (λ (files : List (List ℕ)). IsPlanned image (flat n (map sheet_in files)) (IsHole b.top) at count old mid) none-done
+        (plan-reads tells disk faults p base history at count old mid stands size within paints)
+
+    sector : (k : ℕ) → k < count → sector_at new k ≡ slice_index_or image (at + k) []
+    sector k below =
+        elim (hole-or (slice_index_or b.top (at + k) Hole)) [
+          | inl hole ↦ whole-hole k below hole
+          | inr some ↦ done.others k (omega arith) (omega (arith, below)) some ∙ planned.read k below some
+        ]
+
+    pub whole-reply : new ≡ reply base history at count
+    whole-reply =
+        let part : List (List ℕ) = take count (drop at image) in
+        let part_long : length part ≡ count = length-take-le count (drop at image) (omega (arith, length-drop at image, image-is.count, within)) in
+        bytes-are part new (All-take IsSector count (drop at image) (All-drop IsSector at image image-is.sectors)) (omega (arith, long, part_long))
+        (λ k below. sector k (omega (arith, below, part_long)) ∙ sym (get_or-take count (drop at image) k [] (omega (arith, below, part_long)) ∙ get_or-drop at image k []))

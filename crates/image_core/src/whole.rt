@@ -1,12 +1,14 @@
 //! Reads through the layers.
-ghost use Rattle.std.specs.Prelude.{◌≡◌, ◌≢◌, ℕ, ◌+◌, ◌-◌, ◌*◌, ◌^◌, ◌<◌, ◌≤◌, ◌↔◌, List, [], length, take, drop, All, IsTrue, IfOk, OnOk, IfSome, IsErrOf};
+ghost use Rattle.std.specs.Prelude.{◌≡◌, ◌≢◌, ℕ, ◌+◌, ◌-◌, ◌*◌, ◌^◌, ◌<◌, ◌≤◌, ◌↔◌, List, [], length, take, drop, All, IsTrue, IfOk, OnOk, IfSome, IsErrOf, slice_index_or};
 ghost use Rattle.std.specs.Arc.{arc_value};
 ghost use Rattle.std.specs.Option.{ForSome};
 ghost use Rattle.sector_extent.specs.Causes.{HasCause};
 ghost use Rattle.block_disk.specs.Claims.{Quiet};
 ghost use Rattle.flat_image.specs.declared.act.Act.TheVariants.{Read};
 ghost use Rattle.flat_image.specs.declared.base.Base as bases;
-ghost use Rattle.flat_image.specs.History.{History, reply};
+ghost use Rattle.flat_image.specs.History.{History, now, after, reply};
+ghost use Rattle.flat_image.specs.RowCells.{sector_at};
+ghost use Rattle.top_writer.specs.Gaps.{IsHole};
 ghost use Rattle.top_writer.specs.View.{sectors_of};
 ghost use Rattle.merged_index.specs.Cells.{cells_of};
 ghost use Rattle.merged_index.specs.Pieces.{IsPiece, end_of, onward};
@@ -286,6 +288,9 @@ impl Parts {
         ensures goes { Goes D.tells (D.state disk.old) (D.state disk.new) (D.faults disk.old) (D.faults disk.new) self.old self.new (noted_whole (Read extent.at extent.count) result) }
         ensures bytes { OnOk result (IsTrue D.tells → IfSome (S.files shelf.old) (λ files. (base : bases.Base) (history : History)
             → ImageStands D.tells (D.state disk.old) (D.faults disk.old) self.old base history → base.lowers ≡ files → out.new ≡ reply base history extent.at extent.count)) }
+        ensures holes { OnOk result (IfSome (S.files shelf.old) (λ files. (base : bases.Base) (history : History)
+            → ImageStands D.tells (D.state disk.old) (D.faults disk.old) self.old base history → base.lowers ≡ files → (k : ℕ) → k < extent.count
+            → IsHole (now base history).top (extent.at + k) → sector_at out.new k ≡ slice_index_or (after base history) (extent.at + k) [])) }
         ensures lowers { self.new.lowers ≡ self.old.lowers }
         ensures top { self.new.top ≡ self.old.top }
         ensures stepped { self.new.steps ≤ self.old.steps + 1 }
@@ -343,6 +348,10 @@ impl<D: Disk> Image<D> {
         ensures goes { Goes D.tells (D.state self.old.disk) (D.state self.new.disk) (D.faults self.old.disk) (D.faults self.new.disk) self.old.parts self.new.parts (noted_whole (Read extent.at extent.count) result) }
         ensures bytes { OnOk result (IsTrue D.tells → IfSome (S.files shelf.old) (λ files. (base : bases.Base) (history : History)
             → ⟦<Image<D> as Stands>⟧.stands self.old base 0 history → base.lowers ≡ files → out.new ≡ reply base history extent.at extent.count)) }
+        // what the top has not is read of the layers, also where the disk does not tell
+        ensures holes { OnOk result (IfSome (S.files shelf.old) (λ files. (base : bases.Base) (history : History)
+            → ⟦<Image<D> as Stands>⟧.stands self.old base 0 history → base.lowers ≡ files → (k : ℕ) → k < extent.count
+            → IsHole (now base history).top (extent.at + k) → sector_at out.new k ≡ slice_index_or (after base history) (extent.at + k) [])) }
         ensures size { length out.new ≡ length out.old }
         ensures lowers { (parts_view self.new.parts).lowers ≡ (parts_view self.old.parts).lowers }
         ensures sectors { (parts_view self.new.parts).sectors ≡ (parts_view self.old.parts).sectors }

@@ -14,7 +14,7 @@ use Rattle.image_core.specs.Pieces.{SnapshotView, IsSnapshotOf}
 use Rattle.image_core.specs.Whole.{sectors_by, AreFilled}
 use Rattle.image_core.proofs.StepGoes.{goes-noted, goes-refused, counts-clean, counts-fault, keeps-before, quiet-goes}
 use Rattle.image_core.proofs.FilledSectors.{gaps-lie}
-use Rattle.image_core.proofs.WholeReads.{whole-reply, on-shelf}
+use Rattle.image_core.proofs.WholeReads.{whole-hole, whole-reply, on-shelf}
 use Rattle.image_core.proofs.parts.Parts.read_whole.Goals as goal
 
 pub returns-in-Err-Memory-clause-goes : goal.returns-in-Err-Memory-clause-goes
@@ -69,10 +69,24 @@ returns-in-Ok-read_gaps-clause-bytes g c told =
     subst (AreGaps (IsHole b.top) c.args.extent.at (c.args.extent.at + c.args.extent.count)) (sym (c.as_slice.ensures ∙ (adds.behind ∙ ap (λ (l : List Extent). l ++ adds.added) empty))) adds.gaps in
     let s = c.deref-snapshot.result.now in
     whole-reply g.D.Disk.tells (g.D.Disk.state c.args.disk.now) (g.D.Disk.faults c.args.disk.now) c.args.self.now base history s c.args.extent.at c.args.extent.count
-    c.args.out.now c.read_part.new.out c.read_gaps.new.out c.as_slice.result.now k
-    (subst (λ (v : SnapshotView). IsSnapshotOf v c.args.self.now.lowers []) (sym c.deref-snapshot.ensures) k.fits.snapshot)
-    c.requires.size (c.read_gaps.auto.out ∙ (c.read_part.ensures.size ∙ c.requires.size)) c.requires.within
-    (c.in-Ok.ensures.bytes told b.sectors (parent_asked (epoch_of b) b.lowers) (stand b) k.tops k.fits.top) are
+    c.read_part.new.out c.read_gaps.new.out c.as_slice.result.now k
+    (subst (λ (v : SnapshotView). IsSnapshotOf v c.args.self.now.lowers []) (sym c.deref-snapshot.ensures) k.fits.snapshot) c.requires.within are
+    (subst (λ (l : List (List ℕ)). AreFilled (sectors_by l (cells_of s.index)) c.args.extent.at c.as_slice.result.now c.read_part.new.out c.read_gaps.new.out) (sym lows) filled)
+    c.args.out.now c.requires.size (c.read_gaps.auto.out ∙ (c.read_part.ensures.size ∙ c.requires.size))
+    (c.in-Ok.ensures.bytes told b.sectors (parent_asked (epoch_of b) b.lowers) (stand b) k.tops k.fits.top))
+
+pub returns-in-Ok-read_gaps-clause-holes : goal.returns-in-Ok-read_gaps-clause-holes
+returns-in-Ok-read_gaps-clause-holes g c =
+    IfSome_then (g.S.Shelf.files c.args.shelf.now) c.in-Ok-read_gaps.ensures.filled (λ files filled base history k lows.
+    let b = now base history in
+    let adds = c.in-Ok.ensures.gaps b.sectors (parent_asked (epoch_of b) b.lowers) (stand b) k.tops k.fits.top in
+    let empty = c.from_vec-gaps.ensures ∙ c.new.ensures.items in
+    let are : AreGaps (IsHole b.top) c.args.extent.at (c.args.extent.at + c.args.extent.count) c.as_slice.result.now =
+    subst (AreGaps (IsHole b.top) c.args.extent.at (c.args.extent.at + c.args.extent.count)) (sym (c.as_slice.ensures ∙ (adds.behind ∙ ap (λ (l : List Extent). l ++ adds.added) empty))) adds.gaps in
+    let s = c.deref-snapshot.result.now in
+    whole-hole g.D.Disk.tells (g.D.Disk.state c.args.disk.now) (g.D.Disk.faults c.args.disk.now) c.args.self.now base history s c.args.extent.at c.args.extent.count
+    c.read_part.new.out c.read_gaps.new.out c.as_slice.result.now k
+    (subst (λ (v : SnapshotView). IsSnapshotOf v c.args.self.now.lowers []) (sym c.deref-snapshot.ensures) k.fits.snapshot) c.requires.within are
     (subst (λ (l : List (List ℕ)). AreFilled (sectors_by l (cells_of s.index)) c.args.extent.at c.as_slice.result.now c.read_part.new.out c.read_gaps.new.out) (sym lows) filled))
 
 pub returns-clause-goes : goal.returns-clause-goes
