@@ -1,8 +1,9 @@
 -- Runs of pieces that are joined, and that are read.
 use Rattle.std.proofs.Common.{◌≡◌, ℕ, ◌+◌, ◌-◌, ◌<◌, ◌≤◌, List, [], ◌∷◌, length, take, drop, refl, sym, ap, subst, ◌∙◌, arith, inl, inr}
-use Rattle.std.specs.Prelude.{slice_index_or}
+use Rattle.std.specs.Prelude.{Option, IfSome, slice_index_or}
 use Rattle.std.proofs.lemmas.List.{drop_more, length-take-le}
 use Rattle.std.proofs.lemmas.Bool.Decides.{leb_tells}
+use Rattle.std.proofs.lemmas.Option.{IfSome_then}
 use Rattle.merged_index.specs.declared.piece.Piece.{Piece}
 use Rattle.merged_index.specs.declared.piece.PieceWhat.{PieceWhat}
 use Rattle.merged_index.specs.declared.piece.PieceWhat.TheVariants.{Hole, Zero, Filled}
@@ -63,12 +64,19 @@ pending-joined files cells at size first next both named pending is there joined
     }
 
 -- a run that was read has the cells of its sectors
-pub run-filled : (files : List (List ℕ)) (count : ℕ) (cells : ℕ → PieceWhat) (at size : ℕ) (run : Piece) (until : ℕ) (old new : List ℕ) → Pending count cells at size run → until ≡ end_of run
+run-filled : (files : List (List ℕ)) (count : ℕ) (cells : ℕ → PieceWhat) (at size : ℕ) (run : Piece) (until : ℕ) (old new : List ℕ) → Pending count cells at size run → until ≡ end_of run
     → IsFilled (sectors_by files (cells_on run)) at run.extent.at (end_of run) old new → IsFilled (sectors_by files cells) at run.extent.at until old new
 run-filled files count cells at size run until old new pending end is =
     subst (λ (k : ℕ). IsFilled (sectors_by files cells) at run.extent.at k old new) (sym end)
     (fills-as (sectors_by files (cells_on run)) (sectors_by files cells) at run.extent.at (end_of run) old new
     (λ i low high. ap (sector_of files) (sym (pending.says i (record { from = low; below = high })))) is)
+
+-- and so in the files that a shelf tells
+pub run-read : (told : Option (List (List ℕ))) (count : ℕ) (cells : ℕ → PieceWhat) (at size : ℕ) (run : Piece) (until : ℕ) (old new : List ℕ) → Pending count cells at size run → until ≡ end_of run
+    → IfSome told (λ files. IsFilled (sectors_by files (cells_on run)) at run.extent.at (end_of run) old new)
+    → IfSome told (λ files. IsFilled (sectors_by files cells) at run.extent.at until old new)
+run-read told count cells at size run until old new pending end is =
+    IfSome_then told is (λ files filled. run-filled files count cells at size run until old new pending end filled)
 
 -- no sectors
 pub pending-none : (files : ℕ) (cells : ℕ → PieceWhat) (at size : ℕ) (run : Piece) → run.extent.count ≡ 0 → run.what ≡ Hole → LiesIn at size run.extent → Pending files cells at size run

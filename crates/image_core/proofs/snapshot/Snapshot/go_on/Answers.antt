@@ -1,11 +1,10 @@
 use Rattle.std.proofs.Common.{ℕ, sym, subst, arith, length}
-use Rattle.std.proofs.lemmas.Option.{IfSome_then}
 use Rattle.sealed_layer.proofs.Told.{IfSome-each}
 use Rattle.merged_index.specs.Cells.{cells_of}
 use Rattle.merged_index.specs.Pieces.{end_of}
 use Rattle.image_core.specs.Whole.{sectors_by, Pending}
 use Rattle.image_core.proofs.FilledSectors.{fills-none}
-use Rattle.image_core.proofs.PendingRuns.{pending-next, pending-joined, run-filled}
+use Rattle.image_core.proofs.PendingRuns.{pending-next, pending-joined, run-read}
 use Rattle.image_core.proofs.snapshot.Snapshot.go_on.Goals as goal
 
 pub returns-then-run-eq0-clause-pending : goal.returns-then-run-eq0-clause-pending
@@ -41,6 +40,5 @@ returns-clause-pending g c =
 
 pub returns-clause-filled : goal.returns-clause-filled
 returns-clause-filled g c =
-    IfSome_then (g.S.Shelf.files c.args.shelf.now) c.in_ok-read_run.ensures.filled
-    (λ files is. run-filled files (g.S.Shelf.count c.args.shelf.now) (cells_of c.args.self.now.index) c.args.at (length c.args.out.now) c.args.run.now c.args.next.now.extent.at
-    c.args.out.now c.read_run.new.out c.requires.pending c.requires.next.begins is)
+    run-read (g.S.Shelf.files c.args.shelf.now) (g.S.Shelf.count c.args.shelf.now) (cells_of c.args.self.now.index) c.args.at (length c.args.out.now) c.args.run.now
+    c.args.next.now.extent.at c.args.out.now c.read_run.new.out c.requires.pending c.requires.next.begins c.in_ok-read_run.ensures.filled

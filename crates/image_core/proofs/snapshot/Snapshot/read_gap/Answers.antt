@@ -1,10 +1,9 @@
 use Rattle.std.proofs.Common.{ℕ, ◌+◌, ◌∙◌, refl, sym, subst, arith, length}
-use Rattle.std.proofs.lemmas.Option.{IfSome_then}
 use Rattle.sealed_layer.proofs.Told.{IfSome-each}
 use Rattle.merged_index.specs.Cells.{cells_of}
 use Rattle.image_core.specs.Whole.{sectors_by, AreOnShelf}
 use Rattle.image_core.proofs.FilledSectors.{fills-none, fills-on}
-use Rattle.image_core.proofs.PendingRuns.{pending-none, run-filled}
+use Rattle.image_core.proofs.PendingRuns.{pending-none, run-read}
 use Rattle.image_core.proofs.snapshot.Snapshot.read_gap.Goals as goal
 
 pub loop-shelf-init : goal.loop-shelf-init
@@ -47,6 +46,5 @@ returns-clause-filled g c =
     let now_told = g.S.Shelf.files c.loop-shelf.shelf in
     fills-on (g.S.Shelf.files c.args.shelf.now) now_told cells c.args.at c.args.gap.now.at c.loop-shelf.run.extent.at end
     c.args.out.now c.loop-shelf.out c.read_run.new.out before.files before.filled
-    (IfSome_then now_told c.in_ok-read_run.ensures.filled (λ files is.
-    run-filled files (g.S.Shelf.count c.loop-shelf.shelf) cells c.args.at (length c.loop-shelf.out) c.loop-shelf.run end c.loop-shelf.out c.read_run.new.out before.pending
-    (omega (arith, before.within, c.loop-shelf-test.false, c.end.ensures, c.end-in-loop-shelf.ensures)) is))
+    (run-read now_told (g.S.Shelf.count c.loop-shelf.shelf) cells c.args.at (length c.loop-shelf.out) c.loop-shelf.run end c.loop-shelf.out c.read_run.new.out before.pending
+    (omega (arith, before.within, c.loop-shelf-test.false, c.end.ensures, c.end-in-loop-shelf.ensures)) c.in_ok-read_run.ensures.filled)

@@ -1,5 +1,4 @@
 use Rattle.std.proofs.Common.{IfSome, List, ℕ, ◌≡◌, ◌+◌, ◌++◌, ◌∙◌, [], ◌∷◌, refl, sym, ap, subst, arith, length, take}
-use Rattle.std.proofs.lemmas.Option.{IfSome_then}
 use Rattle.std.proofs.lemmas.List.{take_more, take_all}
 use Rattle.sealed_layer.proofs.Told.{IfSome-each}
 use Rattle.sector_extent.specs.declared.extent.Extent.{Extent}
@@ -44,5 +43,5 @@ pub returns-clause-filled : goal.returns-clause-filled
 returns-clause-filled g c =
     let cells = cells_of c.args.self.now.index in
     let all : take c.loop-gap.gap-index c.args.gaps.now ≡ c.args.gaps.now = take_all c.loop-gap.gap-index c.args.gaps.now (omega arith) in
-    IfSome_then (g.S.Shelf.files c.args.shelf.now) c.loop-gap.invariant.filled
-    (λ files is. subst (λ (gaps : List Extent). AreFilled (sectors_by files cells) c.args.at gaps c.args.out.now c.loop-gap.out) all is)
+    subst (λ (gaps : List Extent). IfSome (g.S.Shelf.files c.args.shelf.now) (λ files. AreFilled (sectors_by files cells) c.args.at gaps c.args.out.now c.loop-gap.out)) all
+    c.loop-gap.invariant.filled
