@@ -1,6 +1,6 @@
 -- Reading piece after piece.
-use Rattle.std.proofs.Common.{◌≡◌, ℕ, ◌+◌, ◌^◌, ◌<◌, ◌≤◌, List, [], ◌∷◌, ◌++◌, length, refl, sym, ap, ◌∙◌, subst, arith, length-append}
-use Rattle.std.specs.Prelude.{Option, Some, None, IfSome, Result, Ok, Err}
+use Rattle.std.proofs.Common.{◌≡◌, ℕ, ◌+◌, ◌<◌, ◌≤◌, List, [], ◌++◌, length, refl, sym, ap, ◌∙◌, subst, arith, length-append}
+use Rattle.std.specs.Prelude.{Option, Some, None, IfSome, Result, Err}
 use Rattle.std.specs.Io.KnownBytes.{Consumes, IsAtEnd}
 use Rattle.std.proofs.KnownBytes.{Consumes-nil, Consumes-trans, Consumes-whole}
 use Rattle.overlay_tool.specs.declared.input.InputFault.{InputFault}
@@ -20,10 +20,10 @@ read_size b c before now room count r = ap (length {A = ℕ}) r.grown ∙ length
 pub read_whole : (a b : Option (List ℕ)) (bytes : List ℕ) → Consumes a b bytes → IsAtEnd b → IfSome a (λ file. bytes ≡ file)
 read_whole a b bytes p end = Consumes-whole a b bytes (λ file. bytes ≡ file) p end refl
 
-pub too_long : (a b : Option (List ℕ)) (bytes : List ℕ) → Consumes a b bytes → 2 ^ 30 < length bytes → IfSome a (λ file. 2 ^ 30 < length file)
-too_long None b bytes p long = tt
-too_long (Some file) None bytes p long = absurd p
-too_long (Some file) (Some rest) bytes p long = omega (arith, long, ap (length {A = ℕ}) p, length-append bytes rest)
+pub too_long : (a b : Option (List ℕ)) (bytes : List ℕ) (most : ℕ) → Consumes a b bytes → most < length bytes → IfSome a (λ file. most < length file)
+too_long None b bytes most p long = tt
+too_long (Some file) None bytes most p long = absurd p
+too_long (Some file) (Some rest) bytes most p long = omega (arith, long, ap (length {A = ℕ}) p, length-append bytes rest)
 
 pub takes_more : (a b c : Option (List ℕ)) (bytes : List ℕ) (most room : ℕ) → Consumes a b bytes → TakesAtMost b c room → length bytes + room ≤ most → TakesAtMost a c most
 takes_more a b c bytes most room p (more, q, few) within =

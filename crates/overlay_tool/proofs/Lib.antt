@@ -8,3 +8,15 @@ pub mod Inputs
 pub mod OneLayers
 pub mod ShelfCommands
 pub mod Tools
+pub mod WithoutReads
+pub mod ImageAdds
+pub mod CopyLaws
+pub mod ChangeLaws
+pub mod OpenLaws
+pub mod ImageLaws
+pub mod ReadLaws
+pub mod Answered
+pub mod TellLaws
+pub mod MakeLaws
+pub mod RunLaws
+pub mod ClearLaws

@@ -1,8 +1,8 @@
 -- One layer that is flattened.
-use Rattle.std.proofs.Common.{◌≡◌, ◌≢◌, ℕ, zero, suc, ◌+◌, ◌^◌, ◌<◌, ◌≤◌, true, List, [], ◌∷◌, ◌++◌, length, map, take, get_or, refl, sym, ap, ◌∙◌, subst, arith, All, inl, inr}
-use Rattle.std.specs.Prelude.{Option, Some, None, IfSome, ◌⊎◌, Result, Ok, Err, IfErr}
+use Rattle.std.proofs.Common.{◌≡◌, ℕ, ◌^◌, ◌<◌, ◌≤◌, true, List, [], ◌∷◌, length, refl, sym, ◌∙◌, subst, arith, inl, inr}
+use Rattle.std.specs.Prelude.{Option, Some, None, IfSome, Result, Ok, Err, IfErr}
 use Rattle.std.specs.Option.{option_map}
-use Rattle.std.specs.Io.KnownBytes.{Appends, Keeps}
+use Rattle.std.specs.Io.KnownBytes.{Appends}
 use Rattle.std.proofs.KnownBytes.{Keeps-refl}
 use Rattle.std.proofs.lemmas.List.Elements.{All-cons, All-nil}
 use Rattle.byte_ports.specs.Ports.{AppendsFront}
@@ -33,12 +33,6 @@ told_one (file ∷ other ∷ files) layer one of = absurd (omega (arith, one))
 -- reading the one file was refused
 pub one_refused : (files : Option (List (List ℕ))) (count before now : ℕ) (old : Option (List ℕ)) (faults : ℕ) → IfSome files (λ list. length list ≡ count) → count ≡ 1
     → (refusal : Refusal) → IsFileRefusal files 0 before now refusal → IsImageCause files old old faults faults refusal
-one_refused files count before now old faults counted one refused.Usage cause = absurd cause
-one_refused files count before now old faults counted one refused.SourceFault cause = absurd cause
-one_refused files count before now old faults counted one refused.SinkFault cause = absurd cause
-one_refused files count before now old faults counted one refused.TooLong cause = absurd cause
-one_refused files count before now old faults counted one refused.NoLayer cause = absurd cause
-one_refused files count before now old faults counted one (refused.Stack fault) cause = absurd cause
 one_refused files count before now old faults counted one refused.ShelfFault cause = inl (Keeps-refl old)
 one_refused files count before now old faults counted one refused.Memory cause = inl (Keeps-refl old)
 one_refused files count before now old faults counted one (refused.Layer number fault) (same, bad, real) = (
@@ -54,6 +48,7 @@ one_refused files count before now old faults counted one (refused.Layer number 
       subst (λ (n : ℕ). StopsAt list n fault) (sym same) stops),
   Keeps-refl old,
 )
+one_refused files count before now old faults counted one other cause = absurd cause
 
 image_of : (list : List (List ℕ)) (layer : LayerIndex) → length list ≡ 1 → LayerOf (file_at list 0) layer.head layer.rows
     → IsImageOf list (told_flat layer.head.sectors list (layer ∷ []))
@@ -89,26 +84,12 @@ flat_caused files old new before now flat.Memory front rose = inr front
 
 pub memory_caused : (files : Option (List (List ℕ))) (old new : Option (List ℕ)) (before now : ℕ) (refusal : Refusal) → IsImageCause files old new before now refusal
     → IsImageCause files old new before now (memory_cause refusal)
-memory_caused files old new before now refused.Usage cause = cause
-memory_caused files old new before now refused.SourceFault cause = cause
-memory_caused files old new before now refused.SinkFault cause = cause
-memory_caused files old new before now refused.TooLong cause = cause
-memory_caused files old new before now refused.NoLayer cause = cause
-memory_caused files old new before now (refused.Stack fault) cause = cause
-memory_caused files old new before now (refused.Layer number fault) cause = cause
 memory_caused files old new before now refused.ShelfFault cause = cause
-memory_caused files old new before now refused.Memory cause = cause
+memory_caused files old new before now other cause = cause
 
 pub never_shelf : (refusal : Refusal) → memory_cause refusal ≡ refused.ShelfFault → ⊥
-never_shelf refused.Usage e = cc
-never_shelf refused.SourceFault e = cc
-never_shelf refused.SinkFault e = cc
-never_shelf refused.TooLong e = cc
-never_shelf refused.NoLayer e = cc
-never_shelf (refused.Stack fault) e = cc
-never_shelf (refused.Layer number fault) e = cc
 never_shelf refused.ShelfFault e = cc
-never_shelf refused.Memory e = cc
+never_shelf other e = cc
 
 pub err_each : {T E : Type 0} (r : Result T E) (P Q : E → Type 0) → ((y : E) → r ≡ Err y → P y → Q y) → IfErr r P → IfErr r Q
 err_each (Ok x) P Q each h = tt
@@ -137,17 +118,13 @@ source_front left file old new same few (bytes, (layers, are, is), written) =
 pub source_cause : (left left' : Option (List ℕ)) (file : List ℕ) (old new : Option (List ℕ)) (a a' s s' : ℕ) → IfSome left (λ whole. file ≡ whole) → length file ≤ 2 ^ 30
     → (refusal : Refusal) → (refusal ≡ refused.ShelfFault → ⊥) → IsImageCause (Some (file ∷ [])) old new s s' refusal
     → Cause (Flatten true) (source_ports left a old s) (source_ports left' a' new s') refusal
-source_cause left left' file old new a a' s s' same few refused.Usage sure cause = cause
-source_cause left left' file old new a a' s s' same few refused.SourceFault sure cause = absurd cause
-source_cause left left' file old new a a' s s' same few refused.TooLong sure cause = absurd cause
-source_cause left left' file old new a a' s s' same few refused.NoLayer sure cause = absurd cause
-source_cause left left' file old new a a' s s' same few (refused.Stack fault) sure cause = absurd cause
 source_cause left left' file old new a a' s s' same few refused.ShelfFault sure cause = absurd (sure refl)
 source_cause left left' file old new a a' s s' same few refused.SinkFault sure cause = (cause.0, source_front left file old new same few cause.1)
 source_cause left left' file old new a a' s s' same few refused.Memory sure (inl kept) = inl kept
 source_cause left left' file old new a a' s s' same few refused.Memory sure (inr front) = inr (source_front left file old new same few front)
 source_cause left left' file old new a a' s s' same few (refused.Layer number fault) sure cause =
     (told_as left file (λ files. AreShort files × StopsAt files number fault) same (short_one file few, cause.0), cause.1)
+source_cause left left' file old new a a' s s' same few other sure cause = absurd cause
 
 pub input_caused : (left left' old : Option (List ℕ)) (a a' s : ℕ) (fault : InputFault) → (fault ≡ input.Failed → a < a') → (fault ≡ input.TooLong → IfSome left (λ file. 2 ^ 30 < length file))
     → Cause (Flatten true) (source_ports left a old s) (source_ports left' a' old s) (input_cause fault)

@@ -1,6 +1,6 @@
 -- Layers that are read one after another.
-use Rattle.std.proofs.Common.{◌≡◌, ℕ, zero, suc, ◌+◌, ◌<◌, ◌≤◌, List, [], ◌∷◌, ◌++◌, length, map, take, get_or, refl, sym, ap, ◌∙◌, subst, arith}
-use Rattle.std.specs.Prelude.{Option, Some, None, IfSome}
+use Rattle.std.proofs.Common.{◌≡◌, ℕ, ◌+◌, ◌<◌, ◌≤◌, List, [], ◌∷◌, ◌++◌, length, map, take, refl, sym, subst, arith}
+use Rattle.std.specs.Prelude.{Option, IfSome}
 use Rattle.std.proofs.lemmas.List.{take_more, take_all}
 use Rattle.layer_shelf.specs.Shelves.{file_at}
 use Rattle.flat_image.specs.LayerFiles.{LayerOf}
@@ -13,7 +13,7 @@ use Rattle.sealed_layer.specs.declared.fault.LayerFault.TheVariants as f
 use Rattle.overlay_tool.specs.declared.refusal.Refusal.{Refusal}
 use Rattle.overlay_tool.specs.declared.refusal.Refusal.TheVariants as refused
 use Rattle.overlay_tool.specs.Prints.{LayerSheet, AreLayers, heads_of}
-use Rattle.overlay_tool.specs.Causes.{IsOfFile, StopsAt}
+use Rattle.overlay_tool.specs.Causes.{StopsAt}
 use Rattle.overlay_tool.specs.Flattening.{AreTold}
 use Rattle.overlay_tool.specs.Reading.{IsFileRefusal, IsStackRefusal, refusal_of}
 use Rattle.overlay_tool.proofs.ToldLayers.{layers_of, told_layers, told_heads}
@@ -50,12 +50,6 @@ told_all files layers k past told = subst (λ (front : List (List ℕ)). AreTold
 
 pub stack_refusal : (files : Option (List (List ℕ))) (layers : List LayerIndex) (count k start before now : ℕ) → IfSome files (λ list. length list ≡ count) → k < count → start ≤ before
     → IfSome files (λ list. AreTold (take k list) layers) → (refusal : Refusal) → IsFileRefusal files k before now refusal → IsStackRefusal files start now refusal
-stack_refusal files layers count k start before now counted within low told refused.Usage cause = absurd cause
-stack_refusal files layers count k start before now counted within low told refused.SourceFault cause = absurd cause
-stack_refusal files layers count k start before now counted within low told refused.SinkFault cause = absurd cause
-stack_refusal files layers count k start before now counted within low told refused.TooLong cause = absurd cause
-stack_refusal files layers count k start before now counted within low told refused.NoLayer cause = absurd cause
-stack_refusal files layers count k start before now counted within low told (refused.Stack fault) cause = absurd cause
 stack_refusal files layers count k start before now counted within low told refused.Memory cause = tt
 stack_refusal files layers count k start before now counted within low told refused.ShelfFault cause = omega (arith, cause)
 stack_refusal files layers count k start before now counted within low told (refused.Layer number fault) (same, bad, real) =
@@ -70,6 +64,7 @@ stack_refusal files layers count k start before now counted within low told (ref
       of_file = real;
     } in
     subst (λ (n : ℕ). StopsAt list n fault) (sym same) stops)
+stack_refusal files layers count k start before now counted within low told other cause = absurd cause
 
 -- layers that were read are no stack
 pub told_stack : (files : Option (List (List ℕ))) (layers : List LayerIndex) (fault : StackFault) → IfSome files (λ list. AreTold list layers)

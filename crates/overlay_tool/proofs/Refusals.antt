@@ -1,10 +1,10 @@
 -- Which refusals exclude one another.
-use Rattle.std.proofs.Common.{◌≡◌, ℕ, zero, suc, ◌+◌, ◌^◌, ◌<◌, ◌≤◌, true, false, List, [], ◌∷◌, length, take, get_or, refl, sym, ap, ◌∙◌, subst, arith, All, inl, inr}
-use Rattle.std.specs.Prelude.{Option, None, Some, IfSome, ◌⊎◌}
+use Rattle.std.proofs.Common.{◌≡◌, ℕ, zero, suc, ◌^◌, ◌<◌, ◌≤◌, true, false, List, [], ◌∷◌, length, refl, sym, subst, arith, inl, inr}
+use Rattle.std.specs.Prelude.{Option, None, Some, IfSome}
 use Rattle.std.proofs.lemmas.Option.{MatchOption-at_some}
 use Rattle.std.proofs.lemmas.List.Elements.{All-head}
 use Rattle.layer_shelf.specs.Shelves.{file_at}
-use Rattle.flat_image.specs.LayerFiles.{LayerFile, LayerOf}
+use Rattle.flat_image.specs.LayerFiles.{LayerFile}
 use Rattle.flat_image.specs.Stacks.{Legal}
 use Rattle.layer_stack.specs.declared.fault.StackFault.{StackFault}
 use Rattle.layer_stack.specs.Faults.{IsStackFault}
@@ -13,10 +13,10 @@ use Rattle.sealed_layer.specs.LayerFaults.{IsLayerFault}
 use Rattle.sealed_layer.proofs.LayerUnique.{no_layer_fault}
 use Rattle.sealed_layer.specs.declared.fault.LayerFault.{LayerFault}
 use Rattle.overlay_tool.specs.declared.words.Command.{Command}
-use Rattle.overlay_tool.specs.declared.words.Command.TheVariants.{Flatten, Info, Stack}
+use Rattle.overlay_tool.specs.declared.words.Command.TheVariants.{Flatten, Info, Stack, Write}
 use Rattle.overlay_tool.specs.declared.refusal.Refusal.{Refusal}
 use Rattle.overlay_tool.specs.declared.refusal.Refusal.TheVariants as refused
-use Rattle.overlay_tool.specs.Prints.{LayerSheet, AreLayers, AreShort, heads_of, read_by, Prints}
+use Rattle.overlay_tool.specs.Prints.{LayerSheet, AreLayers, AreShort, heads_of, input_limit, read_by, Prints}
 use Rattle.overlay_tool.specs.Causes.{Ports, Cause, IsBadLayer, IsCalm, IsOfFile, ReadsSource, ReadsStack, StopsAt}
 use Rattle.overlay_tool.proofs.ToldLayers.{heads_agree}
 
@@ -32,7 +32,7 @@ layer_at (file ∷ files) [] number are within = absurd are
 layer_at (file ∷ files) (layer ∷ layers) zero are within = (layer, are.0)
 layer_at (file ∷ files) (layer ∷ layers) (suc number) are within = layer_at files layers number are.1 (omega arith)
 
-not_stopped : (files : List (List ℕ)) (layers : List LayerSheet) (number : ℕ) (fault : LayerFault) → AreLayers files layers → StopsAt files number fault → ⊥
+pub not_stopped : (files : List (List ℕ)) (layers : List LayerSheet) (number : ℕ) (fault : LayerFault) → AreLayers files layers → StopsAt files number fault → ⊥
 not_stopped files layers number fault are stops =
     let (layer, is) = layer_at files layers number are stops.within in not_faulty (file_at files number) fault layer is stops.here stops.of_file
 
@@ -42,47 +42,44 @@ not_bad (Flatten false) files bytes number fault (layers, are, legal, is) bad = 
 not_bad Stack files bytes number fault (layers, are, legal, is) bad = not_stopped files layers number fault are bad
 not_bad (Info wanted) files bytes number fault (layer, within, is, text) (same, inside, here, real) =
     not_faulty (file_at files wanted) fault layer is (subst (λ (k : ℕ). IsLayerFault (file_at files k) fault) same here) real
+not_bad other files bytes number fault prints bad = prints
 
-not_unstacked : (files : List (List ℕ)) (xs ys : List LayerSheet) (fault : StackFault) → AreLayers files xs → Legal (heads_of xs) → AreLayers files ys → IsStackFault (heads_of ys) fault → ⊥
+pub not_unstacked : (files : List (List ℕ)) (xs ys : List LayerSheet) (fault : StackFault) → AreLayers files xs → Legal (heads_of xs) → AreLayers files ys → IsStackFault (heads_of ys) fault → ⊥
 not_unstacked files xs ys fault p legal q bad = fault_not_legal (heads_of ys) fault bad (subst Legal (heads_agree files xs ys p q) legal)
 
 not_stack : (command : Command) (files : List (List ℕ)) (told : Option (List (List ℕ))) (left : Option (List ℕ)) (bytes : List ℕ) (fault : StackFault)
     → read_by command left told ≡ Some files → Prints command files bytes → ReadsStack command
     → IfSome told (λ files. (layers : List LayerSheet) × AreLayers files layers × IsStackFault (heads_of layers) fault) → ⊥
-not_stack (Flatten true) files told left bytes fault read prints reads bad = reads
-not_stack (Info number) files told left bytes fault read prints reads bad = reads
 not_stack (Flatten false) files told left bytes fault read (layers, are, legal, is) reads bad =
     let (others, these, wrong) = MatchOption-at_some _ (λ files. (layers : List LayerSheet) × AreLayers files layers × IsStackFault (heads_of layers) fault) files read bad in
     not_unstacked files layers others fault are legal these wrong
 not_stack Stack files told left bytes fault read (layers, are, legal, is) reads bad =
     let (others, these, wrong) = MatchOption-at_some _ (λ files. (layers : List LayerSheet) × AreLayers files layers × IsStackFault (heads_of layers) fault) files read bad in
     not_unstacked files layers others fault are legal these wrong
+not_stack other files told left bytes fault read prints reads bad = reads
 
 not_long : (command : Command) (files : List (List ℕ)) (told : Option (List (List ℕ))) (left : Option (List ℕ)) (bytes : List ℕ)
-    → read_by command left told ≡ Some files → Prints command files bytes → ReadsSource command → IfSome left (λ file. 2 ^ 30 < length file) → ⊥
-not_long (Flatten false) files told left bytes read prints reads long = reads
-not_long (Info number) files told left bytes read prints reads long = reads
-not_long Stack files told left bytes read prints reads long = reads
+    → read_by command left told ≡ Some files → Prints command files bytes → ReadsSource command → IfSome left (λ file. input_limit command < length file) → ⊥
 not_long (Flatten true) files told None bytes read prints reads long = absurd (cc)
 not_long (Flatten true) files told (Some file) bytes read (layers, short, are, is) reads long =
     let same : file ∷ [] ≡ files = cc in
     let few : length file ≤ 2 ^ 30 = All-head (λ (file : List ℕ). length file ≤ 2 ^ 30) file [] (subst AreShort (sym same) short) in
     omega (arith, few, long)
+not_long (Write at) files told left bytes read prints reads long = prints
+not_long other files told left bytes read prints reads long = reads
 
 not_missing : (command : Command) (files : List (List ℕ)) (told : Option (List (List ℕ))) (left : Option (List ℕ)) (bytes : List ℕ) (count number : ℕ)
     → read_by command left told ≡ Some files → IfSome told (λ files. length files ≡ count) → Prints command files bytes → command ≡ Info number → count ≤ number → ⊥
-not_missing (Flatten stdin) files told left bytes count number read counted prints same missing = absurd (cc)
-not_missing Stack files told left bytes count number read counted prints same missing = absurd (cc)
 not_missing (Info wanted) files told left bytes count number read counted (layer, within, is, text) same missing =
     let whole : length files ≡ count = MatchOption-at_some _ (λ files. length files ≡ count) files read counted in
     let one : wanted ≡ number = cc in
     omega (arith, whole, one, within)
+not_missing other files told left bytes count number read counted prints same missing = absurd (cc)
 
 -- where a command can succeed and no fault rises, only want of memory refuses it
 pub only_memory : (command : Command) (before now : Ports) (files : List (List ℕ)) (bytes : List ℕ) → read_by command before.left before.files ≡ Some files
     → IfSome before.files (λ files. length files ≡ before.count) → Prints command files bytes → IsCalm before now
     → (refusal : Refusal) → Cause command before now refusal → refusal ≡ refused.Memory
-only_memory command before now files bytes read counted prints calm refused.Usage cause = absurd cause
 only_memory command before now files bytes read counted prints calm refused.SourceFault cause = absurd (omega (arith, cause.1, calm.source))
 only_memory command before now files bytes read counted prints calm refused.SinkFault cause = absurd (omega (arith, cause.0, calm.sink))
 only_memory command before now files bytes read counted prints calm refused.ShelfFault cause = absurd (omega (arith, cause.1, calm.shelf))
@@ -95,3 +92,4 @@ only_memory command before now files bytes read counted prints calm (refused.Lay
     absurd (not_bad command files bytes number fault prints (MatchOption-at_some _ (λ files. IsBadLayer command files number fault) files read cause.0))
 only_memory command before now files bytes read counted prints calm (refused.Stack fault) cause =
     absurd (not_stack command files before.files before.left bytes fault read prints cause.0 cause.1)
+only_memory command before now files bytes read counted prints calm other cause = absurd cause

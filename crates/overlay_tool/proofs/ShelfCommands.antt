@@ -1,7 +1,7 @@
 -- What the commands over a shelf have written, and why they are refused.
-use Rattle.std.proofs.Common.{◌≡◌, ℕ, ◌+◌, ◌<◌, ◌≤◌, true, false, List, [], ◌∷◌, length, map, take, get_or, refl, sym, ap, ◌∙◌, subst, arith, All, inl, inr}
-use Rattle.std.specs.Prelude.{Option, Some, None, IfSome, ◌⊎◌, Result, Ok, Err, IfErr, OnErr, slice_get}
-use Rattle.std.specs.Io.KnownBytes.{Appends, Keeps}
+use Rattle.std.proofs.Common.{◌≡◌, ℕ, ◌<◌, false, List, [], ◌∷◌, length, map, refl, sym, ap, ◌∙◌, subst, arith, All, inl, inr}
+use Rattle.std.specs.Prelude.{Option, Some, IfSome, Result, Ok, Err, IfErr, OnErr, slice_get}
+use Rattle.std.specs.Io.KnownBytes.{Appends}
 use Rattle.std.proofs.KnownBytes.{Keeps-refl}
 use Rattle.std.proofs.lemmas.List.{length-map}
 use Rattle.std.proofs.lemmas.List.Elements.{All-head, All-tail, All-cons, All-nil}
@@ -18,7 +18,6 @@ use Rattle.overlay_tool.specs.declared.flat_fault.FlatFault.{FlatFault}
 use Rattle.overlay_tool.specs.declared.flat_fault.FlatFault.TheVariants as flat
 use Rattle.overlay_tool.specs.declared.refusal.Refusal.{Refusal}
 use Rattle.overlay_tool.specs.declared.refusal.Refusal.TheVariants as refused
-use Rattle.overlay_tool.specs.Prints.{Prints}
 use Rattle.overlay_tool.specs.Reports.{info_lines, stack_lines}
 use Rattle.overlay_tool.specs.Causes.{Ports, Cause, PrintsAll, PrintsFront, shelf_ports}
 use Rattle.overlay_tool.specs.Flattening.{AreTold, told_flat}
@@ -30,39 +29,25 @@ use Rattle.overlay_tool.proofs.Pieces.{IfSome-at, IfSome-each}
 -- the shelf's layers were refused
 pub flatten_refused : (files files' : Option (List (List ℕ))) (count count' before now : ℕ) (old : Option (List ℕ)) (s s' : ℕ) (refusal : Refusal) → IsStackRefusal files before now refusal
     → Cause (Flatten false) (shelf_ports files count before old s) (shelf_ports files' count' now old s') refusal
-flatten_refused files files' count count' before now old s s' refused.Usage cause = cause
-flatten_refused files files' count count' before now old s s' refused.SourceFault cause = absurd cause
-flatten_refused files files' count count' before now old s s' refused.SinkFault cause = absurd cause
-flatten_refused files files' count count' before now old s s' refused.TooLong cause = absurd cause
-flatten_refused files files' count count' before now old s s' refused.NoLayer cause = absurd cause
 flatten_refused files files' count count' before now old s s' refused.Memory cause = inl (Keeps-refl old)
 flatten_refused files files' count count' before now old s s' refused.ShelfFault cause = ((λ reads. reads), cause, inl (Keeps-refl old))
 flatten_refused files files' count count' before now old s s' (refused.Layer number fault) cause = (cause, Keeps-refl old)
 flatten_refused files files' count count' before now old s s' (refused.Stack fault) cause = (tt, cause, Keeps-refl old)
+flatten_refused files files' count count' before now old s s' other cause = absurd cause
 
 -- the shelf's layers were refused
 pub stack_refused : (files files' : Option (List (List ℕ))) (count count' before now : ℕ) (old : Option (List ℕ)) (s s' : ℕ) (refusal : Refusal) → IsStackRefusal files before now refusal
     → Cause Stack (shelf_ports files count before old s) (shelf_ports files' count' now old s') refusal
-stack_refused files files' count count' before now old s s' refused.Usage cause = cause
-stack_refused files files' count count' before now old s s' refused.SourceFault cause = absurd cause
-stack_refused files files' count count' before now old s s' refused.SinkFault cause = absurd cause
-stack_refused files files' count count' before now old s s' refused.TooLong cause = absurd cause
-stack_refused files files' count count' before now old s s' refused.NoLayer cause = absurd cause
 stack_refused files files' count count' before now old s s' refused.Memory cause = inl (Keeps-refl old)
 stack_refused files files' count count' before now old s s' refused.ShelfFault cause = ((λ reads. reads), cause, inl (Keeps-refl old))
 stack_refused files files' count count' before now old s s' (refused.Layer number fault) cause = (cause, Keeps-refl old)
 stack_refused files files' count count' before now old s s' (refused.Stack fault) cause = (tt, cause, Keeps-refl old)
+stack_refused files files' count count' before now old s s' other cause = absurd cause
 
 -- the one layer was refused
 pub info_refused : (files files' : Option (List (List ℕ))) (k count count' before now : ℕ) (old : Option (List ℕ)) (s s' : ℕ) → IfSome files (λ list. length list ≡ count) → k < count
     → (refusal : Refusal) → IsFileRefusal files k before now refusal
     → Cause (Info k) (shelf_ports files count before old s) (shelf_ports files' count' now old s') refusal
-info_refused files files' k count count' before now old s s' counted within refused.Usage cause = cause
-info_refused files files' k count count' before now old s s' counted within refused.SourceFault cause = absurd cause
-info_refused files files' k count count' before now old s s' counted within refused.SinkFault cause = absurd cause
-info_refused files files' k count count' before now old s s' counted within refused.TooLong cause = absurd cause
-info_refused files files' k count count' before now old s s' counted within refused.NoLayer cause = absurd cause
-info_refused files files' k count count' before now old s s' counted within (refused.Stack fault) cause = absurd cause
 info_refused files files' k count count' before now old s s' counted within refused.Memory cause = inl (Keeps-refl old)
 info_refused files files' k count count' before now old s s' counted within refused.ShelfFault cause = ((λ reads. reads), cause, inl (Keeps-refl old))
 info_refused files files' k count count' before now old s s' counted within (refused.Layer number fault) (same, bad, real) = (
@@ -72,6 +57,7 @@ info_refused files files' k count count' before now old s s' counted within (ref
       (same, omega (arith, whole, same), subst (λ (n : ℕ). IsLayerFault (file_at list n) fault) (sym same) here, real)),
   Keeps-refl old,
 )
+info_refused files files' k count count' before now old s s' counted within other cause = absurd cause
 
 -- ---- what was written
 

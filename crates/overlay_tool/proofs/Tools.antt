@@ -1,5 +1,5 @@
 -- What the top call says, from what its commands say.
-use Rattle.std.proofs.Common.{◌≡◌, ◌≢◌, ℕ, ◌<◌, ◌≤◌, true, false, List, length, refl, sym, ap, ◌∙◌, subst, arith, inl, inr}
+use Rattle.std.proofs.Common.{◌≡◌, ◌≢◌, ℕ, true, false, List, length, refl, sym, ap, ◌∙◌, subst, arith, inl, inr}
 use Rattle.std.specs.Prelude.{Option, Some, None, IfSome, ◌⊎◌}
 use Rattle.overlay_tool.specs.declared.words.Command.{Command}
 use Rattle.overlay_tool.specs.declared.words.Command.TheVariants.{Flatten, Info, Stack}
@@ -15,7 +15,6 @@ use Rattle.overlay_tool.proofs.Pieces.{IfSome-each}
 pub from_source : (l l' w w' : Option (List ℕ)) (f f' : Option (List (List ℕ))) (a a' s s' n n' h h' : ℕ) (refusal : Refusal)
     → Cause (Flatten true) (source_ports l a w s) (source_ports l' a' w' s') refusal
     → Cause (Flatten true) (record { left = l; source_faults = a; written = w; sink_faults = s; files = f; count = n; shelf_faults = h }) (record { left = l'; source_faults = a'; written = w'; sink_faults = s'; files = f'; count = n'; shelf_faults = h' }) refusal
-from_source l l' w w' f f' a a' s s' n n' h h' refused.Usage cause = cause
 from_source l l' w w' f f' a a' s s' n n' h h' refused.SourceFault cause = cause
 from_source l l' w w' f f' a a' s s' n n' h h' refused.SinkFault cause = cause
 from_source l l' w w' f f' a a' s s' n n' h h' refused.TooLong cause = cause
@@ -24,11 +23,11 @@ from_source l l' w w' f f' a a' s s' n n' h h' (refused.Layer number fault) caus
 from_source l l' w w' f f' a a' s s' n n' h h' refused.ShelfFault cause = absurd (cause.0 tt)
 from_source l l' w w' f f' a a' s s' n n' h h' refused.NoLayer cause = absurd (let same = cause.0.1 in cc)
 from_source l l' w w' f f' a a' s s' n n' h h' (refused.Stack fault) cause = absurd cause.0
+from_source l l' w w' f f' a a' s s' n n' h h' other cause = absurd cause
 
 pub from_flatten : (l l' w w' : Option (List ℕ)) (f f' : Option (List (List ℕ))) (a a' s s' n n' h h' : ℕ) (refusal : Refusal)
     → Cause (Flatten false) (shelf_ports f n h w s) (shelf_ports f' n' h' w' s') refusal
     → Cause (Flatten false) (record { left = l; source_faults = a; written = w; sink_faults = s; files = f; count = n; shelf_faults = h }) (record { left = l'; source_faults = a'; written = w'; sink_faults = s'; files = f'; count = n'; shelf_faults = h' }) refusal
-from_flatten l l' w w' f f' a a' s s' n n' h h' refused.Usage cause = cause
 from_flatten l l' w w' f f' a a' s s' n n' h h' refused.SinkFault cause = cause
 from_flatten l l' w w' f f' a a' s s' n n' h h' refused.ShelfFault cause = cause
 from_flatten l l' w w' f f' a a' s s' n n' h h' refused.NoLayer cause = cause
@@ -37,11 +36,11 @@ from_flatten l l' w w' f f' a a' s s' n n' h h' refused.SourceFault cause = absu
 from_flatten l l' w w' f f' a a' s s' n n' h h' refused.TooLong cause = absurd cause.0
 from_flatten l l' w w' f f' a a' s s' n n' h h' (refused.Layer number fault) cause = cause
 from_flatten l l' w w' f f' a a' s s' n n' h h' (refused.Stack fault) cause = cause
+from_flatten l l' w w' f f' a a' s s' n n' h h' other cause = absurd cause
 
 pub from_stack : (l l' w w' : Option (List ℕ)) (f f' : Option (List (List ℕ))) (a a' s s' n n' h h' : ℕ) (refusal : Refusal)
     → Cause Stack (shelf_ports f n h w s) (shelf_ports f' n' h' w' s') refusal
     → Cause Stack (record { left = l; source_faults = a; written = w; sink_faults = s; files = f; count = n; shelf_faults = h }) (record { left = l'; source_faults = a'; written = w'; sink_faults = s'; files = f'; count = n'; shelf_faults = h' }) refusal
-from_stack l l' w w' f f' a a' s s' n n' h h' refused.Usage cause = cause
 from_stack l l' w w' f f' a a' s s' n n' h h' refused.SinkFault cause = cause
 from_stack l l' w w' f f' a a' s s' n n' h h' refused.ShelfFault cause = cause
 from_stack l l' w w' f f' a a' s s' n n' h h' refused.NoLayer cause = cause
@@ -50,11 +49,11 @@ from_stack l l' w w' f f' a a' s s' n n' h h' refused.SourceFault cause = absurd
 from_stack l l' w w' f f' a a' s s' n n' h h' refused.TooLong cause = absurd cause.0
 from_stack l l' w w' f f' a a' s s' n n' h h' (refused.Layer number fault) cause = cause
 from_stack l l' w w' f f' a a' s s' n n' h h' (refused.Stack fault) cause = cause
+from_stack l l' w w' f f' a a' s s' n n' h h' other cause = absurd cause
 
 pub from_info : (l l' w w' : Option (List ℕ)) (f f' : Option (List (List ℕ))) (a a' s s' n n' h h' : ℕ) (k : ℕ) (refusal : Refusal)
     → Cause (Info k) (shelf_ports f n h w s) (shelf_ports f' n' h' w' s') refusal
     → Cause (Info k) (record { left = l; source_faults = a; written = w; sink_faults = s; files = f; count = n; shelf_faults = h }) (record { left = l'; source_faults = a'; written = w'; sink_faults = s'; files = f'; count = n'; shelf_faults = h' }) refusal
-from_info l l' w w' f f' a a' s s' n n' h h' k refused.Usage cause = cause
 from_info l l' w w' f f' a a' s s' n n' h h' k refused.SinkFault cause = cause
 from_info l l' w w' f f' a a' s s' n n' h h' k refused.ShelfFault cause = cause
 from_info l l' w w' f f' a a' s s' n n' h h' k refused.NoLayer cause = cause
@@ -63,34 +62,20 @@ from_info l l' w w' f f' a a' s s' n n' h h' k refused.SourceFault cause = absur
 from_info l l' w w' f f' a a' s s' n n' h h' k refused.TooLong cause = absurd cause.0
 from_info l l' w w' f f' a a' s s' n n' h h' k (refused.Layer number fault) cause = cause
 from_info l l' w w' f f' a a' s s' n n' h h' k (refused.Stack fault) cause = cause
+from_info l l' w w' f f' a a' s s' n n' h h' k other cause = absurd cause
 
 -- ---- statuses
 
 pub code_two : (refusal : Refusal) → code_of refusal ≡ 2 → refusal ≡ refused.Usage
 code_two refused.Usage e = refl
-code_two refused.SourceFault e = absurd (omega (arith, e))
-code_two refused.SinkFault e = absurd (omega (arith, e))
-code_two refused.ShelfFault e = absurd (omega (arith, e))
-code_two refused.Memory e = absurd (omega (arith, e))
-code_two refused.TooLong e = absurd (omega (arith, e))
-code_two refused.NoLayer e = absurd (omega (arith, e))
-code_two (refused.Layer number fault) e = absurd (omega (arith, e))
-code_two (refused.Stack fault) e = absurd (omega (arith, e))
+code_two other e = absurd (omega (arith, e))
 
 pub code_some : (refusal : Refusal) → code_of refusal ≡ 0 → ⊥
 code_some refused.Usage e = omega (arith, e)
-code_some refused.SourceFault e = omega (arith, e)
-code_some refused.SinkFault e = omega (arith, e)
-code_some refused.ShelfFault e = omega (arith, e)
-code_some refused.Memory e = omega (arith, e)
-code_some refused.TooLong e = omega (arith, e)
-code_some refused.NoLayer e = omega (arith, e)
-code_some (refused.Layer number fault) e = omega (arith, e)
-code_some (refused.Stack fault) e = omega (arith, e)
+code_some other e = omega (arith, e)
 
 -- want of memory may be told in place of any refusal of a command
-memory_instead : (command : Command) (before now : Ports) (refusal : Refusal) → Cause command before now refusal → Cause command before now refused.Memory
-memory_instead command before now refused.Usage cause = absurd cause
+pub memory_instead : (command : Command) (before now : Ports) (refusal : Refusal) → Cause command before now refusal → Cause command before now refused.Memory
 memory_instead command before now refused.SourceFault cause = inl cause.2
 memory_instead command before now refused.SinkFault cause = inr cause.1
 memory_instead command before now refused.ShelfFault cause = cause.2
@@ -99,6 +84,7 @@ memory_instead command before now refused.TooLong cause = inl cause.2
 memory_instead command before now refused.NoLayer cause = inl cause.1
 memory_instead command before now (refused.Layer number fault) cause = inl cause.1
 memory_instead command before now (refused.Stack fault) cause = inl cause.2
+memory_instead command before now other cause = absurd cause
 
 -- the refusal that was told has its cause too
 pub told_cause : (command : Option Command) (before now : Ports) (refusal told : Refusal) → WordsCause command before now refusal

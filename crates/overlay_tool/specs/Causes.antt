@@ -1,5 +1,5 @@
 -- When a command is refused, and what it has written then.
-use Rattle.std.specs.Prelude.{◌≡◌, ◌≢◌, ℕ, ◌+◌, ◌^◌, ◌<◌, ◌≤◌, ◌⊎◌, true, false, List, [], ◌∷◌, length, take, Option, Some, None, IfSome}
+use Rattle.std.specs.Prelude.{◌≡◌, ◌≢◌, ℕ, ◌+◌, ◌^◌, ◌<◌, ◌≤◌, ◌⊎◌, true, false, List, length, take, Option, Some, None, IfSome}
 use Rattle.std.specs.Io.KnownBytes.{Appends, Consumes, Keeps}
 use Rattle.byte_ports.specs.Ports.{AppendsFront}
 use Rattle.layer_shelf.specs.Shelves.{file_at}
@@ -8,10 +8,12 @@ use Rattle.sealed_layer.specs.LayerFaults.{IsLayerFault}
 use Rattle.sealed_layer.specs.declared.fault.LayerFault.{LayerFault}
 use Rattle.sealed_layer.specs.declared.fault.LayerFault.TheVariants as file
 use Rattle.overlay_tool.specs.declared.words.Command.{Command}
-use Rattle.overlay_tool.specs.declared.words.Command.TheVariants.{Flatten, Info, Stack}
+use Rattle.overlay_tool.specs.declared.words.Command.TheVariants.{Flatten, Info, Stack, Write}
 use Rattle.overlay_tool.specs.declared.refusal.Refusal.{Refusal}
 use Rattle.overlay_tool.specs.declared.refusal.Refusal.TheVariants as refused
-use Rattle.overlay_tool.specs.Prints.{LayerSheet, AreLayers, AreShort, heads_of, read_by, Prints}
+use Rattle.image_core.specs.declared.loading.LoadFault.{LoadFault}
+use Rattle.image_core.specs.declared.loading.LoadFault.TheVariants as load
+use Rattle.overlay_tool.specs.Prints.{LayerSheet, AreLayers, AreShort, heads_of, input_limit, read_by, Prints}
 use Rattle.overlay_tool.specs.Texts.{code_of, line_of}
 
 -- the objects that the call was handed, at one moment: the bytes left in the source, those written to the sink, the
@@ -70,19 +72,21 @@ PrintsNothing before now = Keeps before.written now.written
 -- the command reads the source, the shelf, or the shelf as a stack
 abbrev pub ReadsSource : Command → Type 0
 ReadsSource (Flatten true) = Unit {0}
-ReadsSource (Flatten false) = ⊥
-ReadsSource (Info number) = ⊥
-ReadsSource Stack = ⊥
+ReadsSource (Write at) = Unit {0}
+ReadsSource other = ⊥
 
 abbrev pub ReadsStack : Command → Type 0
-ReadsStack (Flatten true) = ⊥
 ReadsStack (Flatten false) = Unit {0}
-ReadsStack (Info number) = ⊥
 ReadsStack Stack = Unit {0}
+ReadsStack other = ⊥
 
 -- this is a fault of a file, and not the shelf's or want of memory
 abbrev pub IsOfFile : LayerFault → Type 0
 IsOfFile fault = (fault ≢ file.Failed) × (fault ≢ file.Memory)
+
+-- this is a fault of an image's files, and not the disk's or want of memory
+abbrev pub IsOfImage : LoadFault → Type 0
+IsOfImage fault = (fault ≢ load.Failed) × (fault ≢ load.Memory)
 
 -- the file of that number is the first that is no layer, for this fault
 pub record StopsAt (files : List (List ℕ)) (number : ℕ) (fault : LayerFault) : Type 0 where
@@ -95,15 +99,14 @@ pub record StopsAt (files : List (List ℕ)) (number : ℕ) (fault : LayerFault)
 -- of the files that a command reads this one is the first that is no layer
 abbrev pub IsBadLayer : Command → List (List ℕ) → ℕ → LayerFault → Type 0
 IsBadLayer (Flatten true) files number fault = AreShort files × StopsAt files number fault
-IsBadLayer (Flatten false) files number fault = StopsAt files number fault
 IsBadLayer (Info wanted) files number fault = (number ≡ wanted) × (number < length files) × IsLayerFault (file_at files number) fault × IsOfFile fault
-IsBadLayer Stack files number fault = StopsAt files number fault
+IsBadLayer other files number fault = StopsAt files number fault
 
--- the cause of a command's refusal, and what stands after it
+-- the cause of a command's refusal, and what stands after it; nothing is refused yet as only commands over an image are
 abbrev pub Cause : Command → Ports → Ports → Refusal → Type 0
 Cause command before now refused.Usage = ⊥
 Cause command before now refused.SourceFault = ReadsSource command × (before.source_faults < now.source_faults) × PrintsNothing before now
-Cause command before now refused.TooLong = ReadsSource command × IfSome before.left (λ file. 2 ^ 30 < length file) × PrintsNothing before now
+Cause command before now refused.TooLong = ReadsSource command × IfSome before.left (λ file. input_limit command < length file) × PrintsNothing before now
 Cause command before now refused.NoLayer = ((number : ℕ) × (command ≡ Info number) × (before.count ≤ number)) × PrintsNothing before now
 Cause command before now (refused.Layer number fault) =
     IfSome (read_by command before.left before.files) (λ files. IsBadLayer command files number fault) × PrintsNothing before now
@@ -113,6 +116,7 @@ Cause command before now refused.ShelfFault =
     (ReadsSource command → ⊥) × (before.shelf_faults < now.shelf_faults) × (PrintsNothing before now ⊎ PrintsFront command before now)
 Cause command before now refused.SinkFault = (before.sink_faults < now.sink_faults) × PrintsFront command before now
 Cause command before now refused.Memory = PrintsNothing before now ⊎ PrintsFront command before now
+Cause command before now other = ⊥
 
 -- the one line of a refusal was written, or a front of it where the count of faults rose
 abbrev pub IsNoted : Notes → Notes → Refusal → Type 0
@@ -138,11 +142,9 @@ pub record IsCalm (before now : Ports) : Type 0 where
 
 -- how many bytes of the source a command takes at most
 abbrev pub most_taken : Option Command → ℕ
-most_taken None = 0
 most_taken (Some (Flatten true)) = 2 ^ 30 + 1
-most_taken (Some (Flatten false)) = 0
-most_taken (Some (Info number)) = 0
-most_taken (Some Stack) = 0
+most_taken (Some (Write at)) = 33554433
+most_taken other = 0
 
 -- at most so many bytes were taken
 abbrev pub TakesAtMost : Option (List ℕ) → Option (List ℕ) → ℕ → Type 0

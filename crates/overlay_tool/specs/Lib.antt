@@ -7,3 +7,8 @@ pub mod Flattening
 pub mod Causes
 pub mod Reading
 pub mod OneLayer
+pub mod Images
+pub mod ImageCauses
+pub mod ImageSteps
+pub mod Runs
+pub mod Clear

@@ -7,7 +7,7 @@ use Rattle.overlay_tool.specs.declared.input.InputFault.TheVariants as input
 use Rattle.overlay_tool.specs.declared.flat_fault.FlatFault.{FlatFault}
 use Rattle.overlay_tool.specs.declared.flat_fault.FlatFault.TheVariants as flat
 use Rattle.overlay_tool.specs.declared.refusal.Refusal.{Refusal}
-use Rattle.overlay_tool.specs.declared.refusal.Refusal.TheVariants.{Usage, SourceFault, SinkFault, ShelfFault, Memory, TooLong, NoLayer, Layer, Stack}
+use Rattle.overlay_tool.specs.declared.refusal.Refusal.TheVariants.{SourceFault, SinkFault, ShelfFault, Memory, TooLong, Layer}
 use Rattle.overlay_tool.specs.Prints.{LayerSheet, AreLayers, flat_image}
 use Rattle.overlay_tool.specs.Causes.{StopsAt}
 
@@ -27,11 +27,7 @@ IsImageCause files old new before now (Layer number fault) = IfSome files (λ li
 IsImageCause files old new before now SinkFault = (before < now) × WritesFront files old new
 IsImageCause files old new before now ShelfFault = Keeps old new ⊎ WritesFront files old new
 IsImageCause files old new before now Memory = Keeps old new ⊎ WritesFront files old new
-IsImageCause files old new before now (Stack fault) = ⊥
-IsImageCause files old new before now Usage = ⊥
-IsImageCause files old new before now SourceFault = ⊥
-IsImageCause files old new before now TooLong = ⊥
-IsImageCause files old new before now NoLayer = ⊥
+IsImageCause files old new before now other = ⊥
 
 -- what the faults of reading the source and of writing a flat image are refused as
 abbrev pub input_cause : InputFault → Refusal
@@ -47,11 +43,4 @@ flat_cause flat.Memory = Memory
 -- the same where the shelf is memory
 abbrev pub memory_cause : Refusal → Refusal
 memory_cause ShelfFault = Memory
-memory_cause Usage = Usage
-memory_cause SourceFault = SourceFault
-memory_cause SinkFault = SinkFault
-memory_cause Memory = Memory
-memory_cause TooLong = TooLong
-memory_cause NoLayer = NoLayer
-memory_cause (Layer number fault) = Layer number fault
-memory_cause (Stack fault) = Stack fault
+memory_cause other = other

@@ -1,5 +1,5 @@
 -- What each command reads, and what it prints where it succeeds.
-use Rattle.std.specs.Prelude.{◌≡◌, ℕ, ◌^◌, ◌<◌, ◌≤◌, true, false, List, [], ◌∷◌, length, map, All, Option, Some, None}
+use Rattle.std.specs.Prelude.{◌≡◌, ℕ, ◌^◌, ◌<◌, ◌≤◌, true, false, List, [], ◌∷◌, length, map, All, Option}
 use Rattle.std.specs.Option.{option_map}
 use Rattle.std.specs.List.{AllZip}
 use Rattle.lsmt_header.specs.declared.head.Head.{Head}
@@ -8,7 +8,7 @@ use Rattle.flat_image.specs.LayerFiles.{LayerFile}
 use Rattle.flat_image.specs.Stacks.{Legal}
 use Rattle.layer_shelf.specs.Shelves.{file_at}
 use Rattle.overlay_tool.specs.declared.words.Command.{Command}
-use Rattle.overlay_tool.specs.declared.words.Command.TheVariants.{Flatten, Info, Stack}
+use Rattle.overlay_tool.specs.declared.words.Command.TheVariants.{Flatten, Info, Stack, Write}
 use Rattle.overlay_tool.specs.Reports.{info_lines, stack_lines}
 
 -- a layer's head and its sheet
@@ -35,17 +35,22 @@ flat_image layers = bytes_of (flat (sectors_of layers) (map (λ layer. layer.she
 -- the files that a command reads, where they are told: what is left in the source as one file, or the files of the shelf
 abbrev pub read_by : Command → Option (List ℕ) → Option (List (List ℕ)) → Option (List (List ℕ))
 read_by (Flatten true) left files = option_map (λ file. file ∷ []) left
-read_by (Flatten false) left files = files
-read_by (Info number) left files = files
-read_by Stack left files = files
+read_by other left files = files
 
 -- the source is no longer than 2^30 bytes
 abbrev pub AreShort : List (List ℕ) → Type 0
 AreShort files = All (λ file. length file ≤ 2 ^ 30) files
 
--- what a command prints of the files that it reads
+-- the most bytes of the source that a command takes as its input
+abbrev pub input_limit : Command → ℕ
+input_limit (Flatten true) = 2 ^ 30
+input_limit (Write at) = 33554432
+input_limit other = 0
+
+-- what a command prints of the files that it reads; a command over an image prints nothing yet
 abbrev pub Prints : Command → List (List ℕ) → List ℕ → Type 0
 Prints (Flatten true) files bytes = (layers : List LayerSheet) × AreShort files × AreLayers files layers × (bytes ≡ flat_image layers)
 Prints (Flatten false) files bytes = (layers : List LayerSheet) × AreLayers files layers × Legal (heads_of layers) × (bytes ≡ flat_image layers)
 Prints (Info number) files bytes = (layer : LayerSheet) × (number < length files) × LayerFile (file_at files number) layer.head layer.sheet × (bytes ≡ info_lines number layer.head)
 Prints Stack files bytes = (layers : List LayerSheet) × AreLayers files layers × Legal (heads_of layers) × (bytes ≡ stack_lines 0 (heads_of layers))
+Prints other files bytes = ⊥

@@ -6,7 +6,7 @@ use Rattle.sealed_layer.specs.LayerFaults.{IsLayerFault}
 use Rattle.sealed_layer.specs.declared.fault.LayerFault.{LayerFault}
 use Rattle.sealed_layer.specs.declared.fault.LayerFault.TheVariants as f
 use Rattle.overlay_tool.specs.declared.refusal.Refusal.{Refusal}
-use Rattle.overlay_tool.specs.declared.refusal.Refusal.TheVariants.{Usage, SourceFault, SinkFault, ShelfFault, Memory, TooLong, NoLayer, Layer, Stack}
+use Rattle.overlay_tool.specs.declared.refusal.Refusal.TheVariants.{ShelfFault, Memory, Layer, Stack}
 use Rattle.overlay_tool.specs.Prints.{LayerSheet, AreLayers, heads_of}
 use Rattle.overlay_tool.specs.Causes.{IsOfFile, StopsAt}
 
@@ -29,12 +29,7 @@ abbrev pub IsFileRefusal : Option (List (List ℕ)) → ℕ → ℕ → ℕ → 
 IsFileRefusal files k before now (Layer number fault) = (number ≡ k) × IfSome files (λ list. IsLayerFault (file_at list k) fault) × IsOfFile fault
 IsFileRefusal files k before now ShelfFault = before < now
 IsFileRefusal files k before now Memory = Unit {0}
-IsFileRefusal files k before now (Stack fault) = ⊥
-IsFileRefusal files k before now Usage = ⊥
-IsFileRefusal files k before now SourceFault = ⊥
-IsFileRefusal files k before now SinkFault = ⊥
-IsFileRefusal files k before now TooLong = ⊥
-IsFileRefusal files k before now NoLayer = ⊥
+IsFileRefusal files k before now other = ⊥
 
 -- why the files were refused as a stack
 abbrev pub IsStackRefusal : Option (List (List ℕ)) → ℕ → ℕ → Refusal → Type 0
@@ -42,8 +37,4 @@ IsStackRefusal files before now (Layer number fault) = IfSome files (λ list. St
 IsStackRefusal files before now (Stack fault) = IfSome files (λ list. (layers : List LayerSheet) × AreLayers list layers × IsStackFault (heads_of layers) fault)
 IsStackRefusal files before now ShelfFault = before < now
 IsStackRefusal files before now Memory = Unit {0}
-IsStackRefusal files before now Usage = ⊥
-IsStackRefusal files before now SourceFault = ⊥
-IsStackRefusal files before now SinkFault = ⊥
-IsStackRefusal files before now TooLong = ⊥
-IsStackRefusal files before now NoLayer = ⊥
+IsStackRefusal files before now other = ⊥

@@ -1,4 +1,4 @@
--- The lines that `info` and `stack` print.
+-- The lines that commands print.
 use Rattle.std.specs.Prelude.{ℕ, ◌+◌, if◌then◌else◌, List, [], ◌∷◌, ◌++◌, codes, decimal}
 use Rattle.std.specs.List.{concat}
 use Rattle.std.specs.Str.{bytes_eq}
@@ -51,3 +51,13 @@ stack_line number head = concat (
 abbrev pub stack_lines : ℕ → List Head → List ℕ
 stack_lines number [] = []
 stack_lines number (head ∷ heads) = stack_line number head ++ stack_lines (number + 1) heads
+
+-- the lines of `create`, `write` and `zero`
+abbrev pub created_line : ℕ → ℕ → List ℕ
+created_line sectors layers = concat (codes "created sectors " ∷ decimal sectors ∷ codes " layers " ∷ decimal layers ∷ codes "\n" ∷ [])
+
+abbrev pub wrote_line : ℕ → ℕ → List ℕ
+wrote_line at count = concat (codes "wrote " ∷ decimal at ∷ codes " " ∷ decimal count ∷ codes "\n" ∷ [])
+
+abbrev pub zeroed_line : ℕ → ℕ → List ℕ
+zeroed_line at count = concat (codes "zeroed " ∷ decimal at ∷ codes " " ∷ decimal count ∷ codes "\n" ∷ [])

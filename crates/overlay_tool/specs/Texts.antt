@@ -1,13 +1,17 @@
 -- What a refusal prints, and the status with which it ends.
-use Rattle.std.specs.Prelude.{ℕ, List, [], ◌∷◌, ◌++◌, codes, decimal}
+use Rattle.std.specs.Prelude.{ℕ, List, ◌++◌, codes, decimal}
 use Rattle.lsmt_header.specs.declared.head.HeadFault.{HeadFault}
 use Rattle.lsmt_header.specs.declared.head.HeadFault.TheVariants.{BadMagic, BadVersion, Compressed, BadFlags, BadSize, NilUuid, BadTag, Unclean}
 use Rattle.layer_stack.specs.declared.fault.StackFault.{StackFault}
 use Rattle.layer_stack.specs.declared.fault.StackFault.TheVariants as stack
 use Rattle.sealed_layer.specs.declared.fault.LayerFault.{LayerFault}
 use Rattle.sealed_layer.specs.declared.fault.LayerFault.TheVariants as file
+use Rattle.top_writer.specs.declared.fault.TopReason.{TopReason}
+use Rattle.top_writer.specs.declared.fault.TopReason.TheVariants as top
+use Rattle.image_core.specs.declared.loading.LoadFault.{LoadFault}
+use Rattle.image_core.specs.declared.loading.LoadFault.TheVariants as load
 use Rattle.overlay_tool.specs.declared.refusal.Refusal.{Refusal}
-use Rattle.overlay_tool.specs.declared.refusal.Refusal.TheVariants.{Usage, SourceFault, SinkFault, ShelfFault, Memory, TooLong, NoLayer, Layer, Stack}
+use Rattle.overlay_tool.specs.declared.refusal.Refusal.TheVariants.{Usage, SourceFault, SinkFault, ShelfFault, Memory, TooLong, NoLayer, Layer, Stack, DiskFault, NoSize, OtherSize, ImageExists, NotWholeSectors, OutOfRange, Full, Load}
 
 abbrev pub head_text : HeadFault → List ℕ
 head_text BadMagic = codes "bad magic"
@@ -40,6 +44,38 @@ stack_text (stack.SizeDiffers number) = codes "layer " ++ (decimal number ++ cod
 stack_text (stack.ParentDiffers number) = codes "layer " ++ (decimal number ++ codes " parent")
 stack_text (stack.UuidTwice first second) = codes "uuid twice " ++ (decimal first ++ (codes " " ++ decimal second))
 
+abbrev pub top_text : TopReason → List ℕ
+top_text top.HeadShort = codes "head short"
+top_text (top.Bytes fault) = codes "data " ++ head_text fault
+top_text (top.Rows fault) = codes "index " ++ head_text fault
+top_text (top.HeadSize sectors) = codes "head size " ++ decimal sectors
+top_text top.ParentDiffers = codes "parent differs"
+top_text top.NoMark = codes "no mark"
+top_text (top.MarkWorn sequence) = codes "mark worn " ++ decimal sequence
+top_text (top.MarkBad rows sectors) = codes "mark bad"
+top_text top.ShortRows = codes "short rows"
+top_text top.ShortBytes = codes "short data"
+top_text (top.Row number fault) = codes "row " ++ (decimal number ++ codes " empty")
+top_text (top.RowRange number) = codes "row " ++ (decimal number ++ codes " range")
+top_text (top.RowPlace number) = codes "row " ++ (decimal number ++ codes " place")
+
+-- the last two are no faults of an image, and no refusal has them
+abbrev pub load_text : LoadFault → List ℕ
+load_text load.NoImage = codes "no image"
+load_text (load.ManifestWorn sequence) = codes "manifest worn " ++ decimal sequence
+load_text load.ManifestBad = codes "manifest bad"
+load_text load.SizeDiffers = codes "size differs"
+load_text (load.Stack fault) = stack_text fault
+load_text (load.NoTop epoch reason) = codes "top " ++ (decimal epoch ++ (codes ": " ++ top_text reason))
+load_text load.Failed = codes "disk fault"
+load_text load.Memory = codes "memory"
+
+-- the refusal that a fault of loading an image is
+abbrev pub load_cause : LoadFault → Refusal
+load_cause load.Memory = Memory
+load_cause load.Failed = DiskFault
+load_cause other = Load other
+
 abbrev pub text_of : Refusal → List ℕ
 text_of Usage = codes "usage"
 text_of SourceFault = codes "source fault"
@@ -50,17 +86,33 @@ text_of TooLong = codes "too long"
 text_of NoLayer = codes "no layer"
 text_of (Layer number fault) = codes "layer " ++ (decimal number ++ (codes ": " ++ layer_text fault))
 text_of (Stack fault) = stack_text fault
+text_of DiskFault = codes "disk fault"
+text_of NoSize = codes "no size"
+text_of OtherSize = codes "other size"
+text_of ImageExists = codes "image exists"
+text_of NotWholeSectors = codes "not whole sectors"
+text_of OutOfRange = codes "out of range"
+text_of (Full rows sectors) = codes "full " ++ (decimal rows ++ (codes " " ++ decimal sectors))
+text_of (Load fault) = load_text fault
 
 abbrev pub code_of : Refusal → ℕ
 code_of Usage = 2
 code_of (Layer number fault) = 3
 code_of (Stack fault) = 3
+code_of (Load fault) = 3
 code_of SourceFault = 4
 code_of SinkFault = 4
 code_of ShelfFault = 4
+code_of DiskFault = 4
 code_of Memory = 5
 code_of TooLong = 6
 code_of NoLayer = 6
+code_of NoSize = 6
+code_of OtherSize = 6
+code_of ImageExists = 6
+code_of NotWholeSectors = 6
+code_of OutOfRange = 6
+code_of (Full rows sectors) = 6
 
 -- the one line that a refusal prints
 abbrev pub line_of : Refusal → List ℕ

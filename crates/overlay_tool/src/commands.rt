@@ -90,7 +90,7 @@ pub fn print_stack<B: Sink, S: Shelf>(
 }
 
 /// Writes all of a text.
-fn write_text<B: Sink>(text: &[u8], out: &mut B) -> Result<(), Refusal>
+pub fn write_text<B: Sink>(text: &[u8], out: &mut B) -> Result<(), Refusal>
     ensures done { OnOk result (Appends (B.written out.old) (B.written out.new) text.now) }
     ensures front { OnErr result (AppendsFront (B.written out.old) (B.written out.new) text.now) }
     ensures refused { IfErr result (λ refusal. refusal ≡ Refusal.SinkFault) }

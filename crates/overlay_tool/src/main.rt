@@ -2,23 +2,35 @@
 //! a stack of layers, and prints what layers say of themselves.
 #![tactic(auto)]
 
+mod changing;
 mod commands;
+mod copying;
 mod flat_fault;
 mod flattening;
+mod image_texts;
+mod images;
 mod input;
+mod layer_texts;
+mod making;
 mod one_layer;
+mod opening;
 mod reading;
 mod refusal;
 mod reports;
 mod stacks;
 #[cfg(test)]
+mod image_tests;
+#[cfg(test)]
 mod tests;
+#[cfg(test)]
+mod text_tests;
 mod tool;
 mod words;
 
 use crate::refusal::Refusal;
 use crate::tool::{refuse, run_tool};
 use crate::words::WordList;
+use block_disk::MemDisk;
 use byte_ports::{StdSink, StdSource};
 use layer_shelf::MemShelf;
 use sector_extent::{Bytes, CallList, FileTexts};
@@ -34,12 +46,13 @@ fn main(rt: HostRuntime) -> ExitCode {
             let mut out = StdSink::new(rt.stdout());
             let files = FileTexts::from_vec(Vec::new(rt.alloc()));
             let mut shelf = MemShelf::new(files, CallList::from_vec(Vec::new(rt.alloc())));
-            let status = run_tool(
+            let (status, _disk) = run_tool(
                 rt.alloc(),
                 &words,
                 &mut source,
                 &mut out,
                 &mut notes,
+                MemDisk::new(rt.alloc()),
                 &mut shelf,
             );
             ExitCode::from(status.code)

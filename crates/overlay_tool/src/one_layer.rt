@@ -7,7 +7,7 @@ ghost use Rattle.overlay_tool.specs.OneLayer.{IsImageCause, WritesImage, flat_ca
 use crate::flat_fault::FlatFault;
 use crate::flattening::write_flat;
 use crate::input::InputFault;
-use crate::reading::read_input;
+use crate::reading::{MOST_LAYER, read_input};
 use crate::refusal::Refusal;
 use crate::stacks::read_one;
 use byte_ports::{Sink, Source};
@@ -31,13 +31,14 @@ pub fn flatten_source<A: Source, B: Sink>(
         (source_ports (A.left source.new) (A.faults source.new) (B.written out.new) (B.faults out.new))) }
     ensures within { TakesAtMost (A.left source.old) (A.left source.new) (2 ^ 30 + 1) }
 {
-    match read_input(alloc, source) {
+    match read_input(alloc, source, MOST_LAYER) {
         Ok(bytes) => flatten_file(alloc, bytes, out),
         Err(fault) => Err(input_refusal(fault)),
     }
 }
 
-fn input_refusal(fault: InputFault) -> Refusal
+/// What a fault of reading the source is refused as.
+pub fn input_refusal(fault: InputFault) -> Refusal
     ensures { result ≡ input_cause fault }
 {
     match fault {
@@ -84,7 +85,15 @@ fn of_memory(refusal: Refusal) -> Refusal
         | Refusal::TooLong
         | Refusal::NoLayer
         | Refusal::Layer(_, _)
-        | Refusal::Stack(_) => refusal,
+        | Refusal::Stack(_)
+        | Refusal::DiskFault
+        | Refusal::NoSize
+        | Refusal::OtherSize
+        | Refusal::ImageExists
+        | Refusal::NotWholeSectors
+        | Refusal::OutOfRange
+        | Refusal::Full { .. }
+        | Refusal::Load(_) => refusal,
     }
 }
 

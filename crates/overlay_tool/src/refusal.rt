@@ -1,9 +1,11 @@
 //! Why a command is refused: what it prints, and its status.
 ghost use Rattle.std.specs.Prelude.{◌≡◌, Some};
-ghost use Rattle.overlay_tool.specs.Texts.{code_of, head_text, layer_text, stack_text, text_of};
+ghost use Rattle.overlay_tool.specs.Texts.{code_of, load_cause, text_of};
 
+use crate::image_texts::LoadText;
+use crate::layer_texts::{LayerText, StackText};
+use image_core::LoadFault;
 use layer_stack::StackFault;
-use lsmt_header::HeadFault;
 use sealed_layer::LayerFault;
 use std::alloc::{AllocError, AllocFailed};
 use std::fmt;
@@ -28,6 +30,22 @@ pub enum Refusal {
     Layer(u32, LayerFault),
     /// The layers are no stack.
     Stack(StackFault),
+    /// The disk failed.
+    DiskFault,
+    /// No lower layer says how many sectors the image is to have, and no word does.
+    NoSize,
+    /// The lower layers have other sectors than the image is to have.
+    OtherSize,
+    /// The disk holds an image.
+    ImageExists,
+    /// The source's bytes are no whole sectors.
+    NotWholeSectors,
+    /// The part exceeds the image.
+    OutOfRange,
+    /// The top has so many rows and sectors of data, and no room for more.
+    Full { rows: u64, sectors: u64 },
+    /// The disk holds no image over the lower layers. Its own fault and want of memory are told apart.
+    Load(LoadFault),
 }
 
 impl From<AllocError> for Refusal {
@@ -57,11 +75,35 @@ impl Refusal {
     {
         match self {
             Refusal::Usage => 2,
-            Refusal::Layer(_, _) | Refusal::Stack(_) => 3,
-            Refusal::SourceFault | Refusal::SinkFault | Refusal::ShelfFault => 4,
+            Refusal::Layer(_, _) | Refusal::Stack(_) | Refusal::Load(_) => 3,
+            Refusal::SourceFault | Refusal::SinkFault | Refusal::ShelfFault | Refusal::DiskFault =>
+                4,
             Refusal::Memory => 5,
-            Refusal::TooLong | Refusal::NoLayer => 6,
+            Refusal::TooLong
+            | Refusal::NoLayer
+            | Refusal::NoSize
+            | Refusal::OtherSize
+            | Refusal::ImageExists
+            | Refusal::NotWholeSectors
+            | Refusal::OutOfRange
+            | Refusal::Full { .. } => 6,
         }
+    }
+}
+
+/// What a fault of loading an image is refused as.
+pub fn load_refusal(fault: LoadFault) -> Refusal
+    ensures { result ≡ load_cause fault }
+{
+    match fault {
+        LoadFault::Memory => Refusal::Memory,
+        LoadFault::Failed => Refusal::DiskFault,
+        LoadFault::NoImage
+        | LoadFault::ManifestWorn(_)
+        | LoadFault::ManifestBad
+        | LoadFault::SizeDiffers
+        | LoadFault::Stack(_)
+        | LoadFault::NoTop { .. } => Refusal::Load(fault),
     }
 }
 
@@ -85,72 +127,17 @@ impl fmt::Display for Refusal {
                 let fault = StackText(*fault);
                 write!(f, "{fault}")
             }
-        }
-    }
-}
-
-/// Prints the fault of a layer file.
-#[derive(Clone, Copy)]
-struct LayerText(LayerFault);
-
-impl fmt::Display for LayerText {
-    ghost output = { λ text. Some (layer_text text.0) };
-
-    fn fmt<W: fmt::Write>(&self, f: &mut fmt::Formatter<W>) -> fmt::Result {
-        match self.0 {
-            LayerFault::Short => f.write_str("short"),
-            LayerFault::Head(fault) => {
-                let fault = HeadText(fault);
+            Refusal::DiskFault => f.write_str("disk fault"),
+            Refusal::NoSize => f.write_str("no size"),
+            Refusal::OtherSize => f.write_str("other size"),
+            Refusal::ImageExists => f.write_str("image exists"),
+            Refusal::NotWholeSectors => f.write_str("not whole sectors"),
+            Refusal::OutOfRange => f.write_str("out of range"),
+            Refusal::Full { rows, sectors } => write!(f, "full {rows} {sectors}"),
+            Refusal::Load(fault) => {
+                let fault = LoadText(*fault);
                 write!(f, "{fault}")
             }
-            LayerFault::TrailerDiffers => f.write_str("trailer differs"),
-            LayerFault::TooManyRows(rows) => write!(f, "too many rows {rows}"),
-            LayerFault::BadIndexPlace => f.write_str("bad index place"),
-            LayerFault::Row { number, .. } => write!(f, "row {number} empty"),
-            LayerFault::RowOrder(number) => write!(f, "row {number} order"),
-            LayerFault::RowRange(number) => write!(f, "row {number} range"),
-            LayerFault::RowPlace(number) => write!(f, "row {number} place"),
-            LayerFault::Failed => f.write_str("shelf fault"),
-            LayerFault::Memory => f.write_str("memory"),
-        }
-    }
-}
-
-/// Prints the fault of a layer's head.
-#[derive(Clone, Copy)]
-struct HeadText(HeadFault);
-
-impl fmt::Display for HeadText {
-    ghost output = { λ text. Some (head_text text.0) };
-
-    fn fmt<W: fmt::Write>(&self, f: &mut fmt::Formatter<W>) -> fmt::Result {
-        match self.0 {
-            HeadFault::BadMagic => f.write_str("bad magic"),
-            HeadFault::BadVersion(version) => write!(f, "bad version {version}"),
-            HeadFault::Compressed => f.write_str("compressed"),
-            HeadFault::BadFlags(flags) => write!(f, "bad flags {flags}"),
-            HeadFault::BadSize(sectors) => write!(f, "bad size {sectors}"),
-            HeadFault::NilUuid => f.write_str("nil uuid"),
-            HeadFault::BadTag => f.write_str("bad tag"),
-            HeadFault::Unclean(place) => write!(f, "unclean {place}"),
-        }
-    }
-}
-
-/// Prints the fault of a stack.
-#[derive(Clone, Copy)]
-struct StackText(StackFault);
-
-impl fmt::Display for StackText {
-    ghost output = { λ text. Some (stack_text text.0) };
-
-    fn fmt<W: fmt::Write>(&self, f: &mut fmt::Formatter<W>) -> fmt::Result {
-        match self.0 {
-            StackFault::Empty => f.write_str("stack empty"),
-            StackFault::TooMany(count) => write!(f, "stack too many {count}"),
-            StackFault::SizeDiffers(number) => write!(f, "layer {number} size"),
-            StackFault::ParentDiffers(number) => write!(f, "layer {number} parent"),
-            StackFault::UuidTwice(first, second) => write!(f, "uuid twice {first} {second}"),
         }
     }
 }

@@ -1,6 +1,6 @@
-//! The lines that `info` and `stack` print.
+//! The lines that commands print.
 ghost use Rattle.std.specs.Prelude.{◌≡◌, ◌^◌, ◌<◌, Some, length, string_bytes, IfOk, map};
-ghost use Rattle.overlay_tool.specs.Reports.{info_lines, named_lines, parent_text, sized_lines, stack_line, stack_lines, tag_text};
+ghost use Rattle.overlay_tool.specs.Reports.{created_line, info_lines, named_lines, parent_text, sized_lines, stack_line, stack_lines, tag_text, wrote_line, zeroed_line};
 
 use lsmt_header::Head;
 use sealed_layer::Layer;
@@ -82,4 +82,25 @@ pub fn stack_report(alloc: Global, layers: &[Layer]) -> Result<String, AllocErro
         text.push_str(line.as_str())?;
     }
     Ok(text)
+}
+
+/// The line of `create` on an image of so many sectors over so many layers.
+pub fn created_report(alloc: Global, sectors: u64, layers: u64) -> Result<String, AllocError>
+    ensures { IfOk result (λ text. string_bytes text ≡ created_line sectors layers) }
+{
+    format!(in alloc; "created sectors {sectors} layers {layers}\n")
+}
+
+/// The line of `write` on so many sectors from that one on.
+pub fn wrote_report(alloc: Global, at: u64, count: u64) -> Result<String, AllocError>
+    ensures { IfOk result (λ text. string_bytes text ≡ wrote_line at count) }
+{
+    format!(in alloc; "wrote {at} {count}\n")
+}
+
+/// The line of `zero` on so many sectors from that one on.
+pub fn zeroed_report(alloc: Global, at: u64, count: u64) -> Result<String, AllocError>
+    ensures { IfOk result (λ text. string_bytes text ≡ zeroed_line at count) }
+{
+    format!(in alloc; "zeroed {at} {count}\n")
 }

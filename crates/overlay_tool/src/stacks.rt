@@ -1,8 +1,9 @@
 //! Reads the layers of a shelf.
-ghost use Rattle.std.specs.Prelude.{◌≡◌, ◌^◌, ◌<◌, ◌≤◌, length, map, IfOk, IfErr, IfSome};
+ghost use Rattle.std.specs.Prelude.{◌≡◌, ◌^◌, ◌<◌, ◌≤◌, length, map, IfOk, IfErr, IfSome, OnErr};
 ghost use Rattle.layer_shelf.specs.Shelves.{file_at};
 ghost use Rattle.flat_image.specs.LayerFiles.{LayerOf};
 ghost use Rattle.flat_image.specs.Stacks.{Legal};
+ghost use Rattle.image_core.specs.Loading.{AreStackOrNone};
 ghost use Rattle.overlay_tool.specs.Flattening.{AreTold};
 ghost use Rattle.overlay_tool.specs.Reading.{IsFileRefusal, IsStackRefusal, refusal_of};
 
@@ -83,6 +84,24 @@ pub fn read_stack<S: Shelf>(alloc: Global, shelf: &mut S) -> Result<Vec<Layer>, 
         Ok(()) => Ok(layers),
         Err(fault) => Err(Refusal::Stack(fault)),
     }
+}
+
+/// Reads all files of the shelf as layers, and checks that they are a stack where there is one.
+pub fn read_lowers<S: Shelf>(alloc: Global, shelf: &mut S) -> Result<Vec<Layer>, Refusal>
+    ensures count { IfOk result (λ layers. length layers.items ≡ S.count shelf.old) }
+    ensures few { IfOk result (λ layers. length layers.items < 2 ^ 32) }
+    ensures told { IfOk result (λ layers. IfSome (S.files shelf.old) (λ files. AreTold files layers.items)) }
+    ensures legal { IfOk result (λ layers. AreStackOrNone layers.items) }
+    ensures refused { IfErr result (IsStackRefusal (S.files shelf.old) (S.faults shelf.old) (S.faults shelf.new)) }
+    ensures some { OnErr result (0 < S.count shelf.old) }
+    ensures later { S.faults shelf.old ≤ S.faults shelf.new }
+    ensures same_files { S.files shelf.new ≡ S.files shelf.old }
+    ensures same_count { S.count shelf.new ≡ S.count shelf.old }
+{
+    if shelf.count() == 0 {
+        return Ok(Vec::new(alloc));
+    }
+    read_stack(alloc, shelf)
 }
 
 fn heads_of(alloc: Global, layers: &[Layer]) -> Result<Vec<Head>, AllocError>

@@ -1,5 +1,6 @@
 use crate::tool::{Status, run_tool};
 use crate::words::WordList;
+use block_disk::MemDisk;
 use byte_ports::{MemSink, MemSource};
 use layer_shelf::MemShelf;
 use sector_extent::{Bytes, CallList, FileTexts};
@@ -50,7 +51,7 @@ fn layer_file(
 }
 
 /// L1, L2 and L3.
-fn first(alloc: Global) -> Result<Vec<u8>, AllocError> {
+pub fn first(alloc: Global) -> Result<Vec<u8>, AllocError> {
     layer_file(alloc, 0x11, 0, true, Some(FILLED_ROW))
 }
 
@@ -95,7 +96,15 @@ fn run(
     let mut notes = MemSink::new(alloc, no_calls(alloc));
     let mut shelf = MemShelf::new(FileTexts::from_vec(files), no_calls(alloc));
     let words = WordList::from_vec(list);
-    let status = run_tool(alloc, &words, &mut source, &mut out, &mut notes, &mut shelf);
+    let (status, _disk) = run_tool(
+        alloc,
+        &words,
+        &mut source,
+        &mut out,
+        &mut notes,
+        MemDisk::new(alloc),
+        &mut shelf,
+    );
     Ok(Ran {
         status,
         out: out.into_bytes(),
@@ -254,7 +263,7 @@ fn a_file_that_is_no_layer_is_refused(rt: HostRuntime) -> Result<(), Fail> {
 
 #[test]
 fn words_that_are_no_command_are_refused(rt: HostRuntime) -> Result<(), Fail> {
-    let cases: [&[&str]; 8] = [
+    let cases: [&[&str]; 20] = [
         &[],
         &["flat"],
         &["flatten", "--stdout"],
@@ -263,6 +272,18 @@ fn words_that_are_no_command_are_refused(rt: HostRuntime) -> Result<(), Fail> {
         &["info", "2147483649"],
         &["stack", "0"],
         &["flatten", "--stdin", "x"],
+        &["create", "8"],
+        &["create", "--sectors", "0"],
+        &["create", "--sectors", "2147483649"],
+        &["create", "--sectors=8"],
+        &["read"],
+        &["read", "0", "x"],
+        &["read", "0", "1", "2"],
+        &["write"],
+        &["write", "0", "1"],
+        &["zero", "1"],
+        &["zero", "1", "-1"],
+        &["commit"],
     ];
     for words in cases {
         let none = Vec::new(rt.alloc());
@@ -288,12 +309,13 @@ fn a_failing_source_is_told(rt: HostRuntime) -> Result<(), Fail> {
     let mut notes = MemSink::new(rt.alloc(), no_calls(rt.alloc()));
     let files = FileTexts::from_vec(Vec::new(rt.alloc()));
     let mut shelf = MemShelf::new(files, no_calls(rt.alloc()));
-    let status = run_tool(
+    let (status, _disk) = run_tool(
         rt.alloc(),
         &words,
         &mut source,
         &mut out,
         &mut notes,
+        MemDisk::new(rt.alloc()),
         &mut shelf,
     );
     assert_eq!(rt; status.code, 4);

@@ -1,6 +1,6 @@
 //! Reads the words of a command line.
 ghost use Rattle.std.specs.Prelude.{◌≡◌, [], ◌∷◌};
-ghost use Rattle.overlay_tool.specs.Words.{command_of, number_of};
+ghost use Rattle.overlay_tool.specs.Words.{command_of, create_of, number_of, size_of};
 
 use sector_extent::{Bytes, ListOf};
 
@@ -16,6 +16,14 @@ pub enum Command {
     Info(u64),
     /// Prints a line for each layer of the stack.
     Stack,
+    /// Makes an image over the shelf's layers, of so many sectors or of theirs.
+    Create(Option<u64>),
+    /// Writes so many sectors of the image from that one on.
+    Read { at: u64, count: u64 },
+    /// Puts the bytes of the source into the image from that sector on.
+    Write { at: u64 },
+    /// Makes so many sectors of the image zeros from that one on.
+    Zero { at: u64, count: u64 },
 }
 
 /// The greatest number that a word may be.
@@ -28,6 +36,9 @@ pub fn read_words(words: &WordList) -> Option<Command>
     match words.as_slice() {
         [name] => one_word(name.as_slice()),
         [name, word] => two_words(name.as_slice(), word.as_slice()),
+        [name, first, second] => {
+            three_words(name.as_slice(), first.as_slice(), second.as_slice())
+        }
         _ => None,
     }
 }
@@ -39,6 +50,8 @@ fn one_word(name: &[u8]) -> Option<Command>
         Some(Command::Flatten { stdin: false })
     } else if name == b"stack".as_slice() {
         Some(Command::Stack)
+    } else if name == b"create".as_slice() {
+        Some(Command::Create(None))
     } else {
         None
     }
@@ -58,8 +71,57 @@ fn two_words(name: &[u8], word: &[u8]) -> Option<Command>
             Some(number) => Some(Command::Info(number)),
             None => None,
         }
+    } else if name == b"write".as_slice() {
+        match read_number(word) {
+            Some(at) => Some(Command::Write { at }),
+            None => None,
+        }
     } else {
         None
+    }
+}
+
+fn three_words(name: &[u8], first: &[u8], second: &[u8]) -> Option<Command>
+    ensures { result ≡ command_of (name.now ∷ first.now ∷ second.now ∷ []) }
+{
+    if name == b"create".as_slice() {
+        sized_create(first, second)
+    } else if name == b"read".as_slice() {
+        match (read_number(first), read_number(second)) {
+            (Some(at), Some(count)) => Some(Command::Read { at, count }),
+            _ => None,
+        }
+    } else if name == b"zero".as_slice() {
+        match (read_number(first), read_number(second)) {
+            (Some(at), Some(count)) => Some(Command::Zero { at, count }),
+            _ => None,
+        }
+    } else {
+        None
+    }
+}
+
+/// The words behind `create`, of which the first names the option and the second is its value.
+fn sized_create(option: &[u8], value: &[u8]) -> Option<Command>
+    ensures { result ≡ create_of option.now value.now }
+{
+    if option == b"--sectors".as_slice() {
+        match read_size(value) {
+            Some(sectors) => Some(Command::Create(Some(sectors))),
+            None => None,
+        }
+    } else {
+        None
+    }
+}
+
+/// The number that a word spells, where it is one of an image's sectors and so not 0.
+fn read_size(word: &[u8]) -> Option<u64>
+    ensures { result ≡ size_of word.now }
+{
+    match read_number(word) {
+        Some(0) => None,
+        number => number,
     }
 }
 

@@ -1,4 +1,4 @@
-use Rattle.std.proofs.Common.{◌≡◌, ℕ, ◌+◌, ◌-◌, ◌^◌, ◌<◌, ◌≤◌, min, List, length, vec_len, refl, sym, ap, ◌∙◌, subst, arith, rules}
+use Rattle.std.proofs.Common.{◌+◌, arith, rules}
 use Rattle.std.proofs.lemmas.Result.{err_from_is_err_and}
 use Rattle.overlay_tool.proofs.Inputs.{none_read, read_step, read_size, read_whole, too_long, takes_more, cause_after}
 use Rattle.overlay_tool.proofs.reading.read_input.Goals as goal
@@ -29,7 +29,7 @@ loop-bytes-preserved g c =
 pub returns-in_err-count-clause-within : goal.returns-in_err-count-clause-within
 returns-in_err-count-clause-within g c =
     takes_more (g.A.Source.left c.args.source.now) (g.A.Source.left c.loop-bytes.source) (g.A.Source.left c.read_piece.new.source) c.loop-bytes.bytes.items
-    (2 ^ 30 + 1) c.min-room.result c.loop-bytes.invariant.consumed c.in_err-count.ensures.within (omega (arith, c.min-room.ensures))
+    (c.args.most + 1) c.min-room.result c.loop-bytes.invariant.consumed c.in_err-count.ensures.within (omega (arith, c.min-room.ensures))
 
 pub returns-in_err-count-clause-cause : goal.returns-in_err-count-clause-cause
 returns-in_err-count-clause-cause g c =
@@ -66,7 +66,7 @@ returns-then-count-room-clause-cause g c = record {
 }
 
 pub returns-clause-too_long : goal.returns-clause-too_long
-returns-clause-too_long g c = λ e. too_long (g.A.Source.left c.args.source.now) (g.A.Source.left c.loop-bytes.source) c.loop-bytes.bytes.items c.loop-bytes.invariant.consumed (omega arith)
+returns-clause-too_long g c = λ e. too_long (g.A.Source.left c.args.source.now) (g.A.Source.left c.loop-bytes.source) c.loop-bytes.bytes.items c.args.most c.loop-bytes.invariant.consumed (omega arith)
 
 pub returns-clause-cause : goal.returns-clause-cause
 returns-clause-cause g c = record { later = c.loop-bytes.invariant.later; failed = λ e. cc }

@@ -5,10 +5,10 @@ use Rattle.overlay_tool.proofs.reading.read_input.Given as goal
 abbrev pub invariant-loop-bytes : goal.invariant-loop-bytes
 invariant-loop-bytes g l = record {
   consumed : Consumes (g.A.Source.left l.fn.source) (g.A.Source.left l.source) l.bytes.items;
-  few : vec_len l.bytes ≤ 2 ^ 30 + 1;
+  few : vec_len l.bytes ≤ l.fn.most + 1;
   later : g.A.Source.faults l.fn.source ≤ g.A.Source.faults l.source;
   piece : vec_len l.piece ≡ 2 ^ 18;
 }
 
 abbrev pub decreases-loop-bytes : goal.decreases-loop-bytes
-decreases-loop-bytes g l = 2 ^ 30 + 1 - vec_len l.bytes
+decreases-loop-bytes g l = l.fn.most + 1 - vec_len l.bytes

@@ -1,0 +1,72 @@
+-- What steps add to the history for which an image stands.
+use Rattle.std.proofs.Common.{◌≡◌, ℕ, ◌+◌, ◌*◌, ◌<◌, ◌≤◌, Bool, true, false, IsTrue, List, [], ◌∷◌, ◌++◌, length, refl, sym, ap, ◌∙◌, subst, arith, inl, inr, append_assoc, append-nil, length-append}
+use Rattle.std.specs.Prelude.{Option, Some, None, IfSome}
+use Rattle.std.specs.Io.KnownBytes.{Appends, Keeps}
+use Rattle.std.proofs.KnownBytes.{Appends-trans, Keeps-refl}
+use Rattle.byte_ports.specs.Ports.{AppendsFront}
+use Rattle.byte_ports.proofs.Chains.{AppendsFront-none, AppendsFront-after}
+use Rattle.block_disk.specs.DiskState.{DiskState}
+use Rattle.flat_image.specs.declared.act.Act.{Act}
+use Rattle.flat_image.specs.declared.act.Act.TheVariants.{Read}
+use Rattle.flat_image.specs.declared.base.Base.{Base}
+use Rattle.flat_image.specs.Entries.{entry}
+use Rattle.flat_image.specs.History.{History, reply}
+use Rattle.image_core.specs.declared.parts.Parts.{Parts}
+use Rattle.image_core.specs.Parts.{parts_view, ImageStands, IsStanding, Goes}
+use Rattle.overlay_tool.specs.ImageSteps.{ImagePort, Stands, is_no_read, without_reads, Adds, AreSectors, WritesSectors, WritesFront}
+use Rattle.overlay_tool.proofs.WithoutReads.{without-append, reply-read}
+use Rattle.overlay_tool.proofs.Pieces.{IfSome-at, IfSome-each}
+
+pub adds-nothing : (image : ImagePort) → Adds [] image image
+adds-nothing image = record { stands = λ base history stands. ([], refl, subst (λ (h : History). Stands image base h) (sym (append-nil history)) stands) }
+
+pub adds-joined : (first second : History) (p q r : ImagePort) → Adds first p q → Adds second q r → Adds (first ++ second) p r
+adds-joined first second p q r one two = record {
+  stands = λ base history stands.
+      let a = one.stands base history stands in
+      let b = two.stands base (history ++ a.0) a.2 in (
+        a.0 ++ b.0,
+        without-append a.0 b.0 ∙ ap (λ (l : History). l ++ without_reads b.0) a.1 ∙ ap (λ (l : History). first ++ l) b.1,
+        subst (λ (h : History). Stands r base h) (append_assoc history a.0 b.0) b.2,
+      );
+}
+
+-- ---- one step
+
+module _ (tells : Bool) (s s' : DiskState) (f f' : ℕ) (p p' : Parts) where
+  abbrev old : ImagePort
+  old = record { tells = tells; state = s; faults = f; parts = p }
+
+  abbrev new : ImagePort
+  new = record { tells = tells; state = s'; faults = f'; parts = p' }
+
+  pub adds-none : Goes tells s s' f f' p p' None → Adds [] old new
+  adds-none goes = record {
+    stands = λ base history stands. ([], refl, subst (λ (h : History). Stands new base h) (sym (append-nil history)) (goes.stands base history 0 stands));
+  }
+
+  pub adds-read : (at count : ℕ) → Goes tells s s' f f' p p' (Some (Read at count)) → Adds [] old new
+  adds-read at count goes = record { stands = λ base history stands. (entry 0 (Read at count) ∷ [], refl, goes.stands base history 0 stands) }
+
+  pub adds-act : (act : Act) → without_reads (entry 0 act ∷ []) ≡ entry 0 act ∷ [] → Goes tells s s' f f' p p' (Some act) → Adds (entry 0 act ∷ []) old new
+  adds-act act stays goes = record { stands = λ base history stands. (entry 0 act ∷ [], stays, goes.stands base history 0 stands) }
+
+  pub standing-after : (acts : History) → IsStanding tells s f p → Adds acts old new → IsStanding tells s' f' p'
+  standing-after acts standing adds = let a = adds.stands standing.0 standing.1 standing.2 in (standing.0, standing.1 ++ a.0, a.2)
+
+-- ---- sectors
+
+pub no-sectors : (image : ImagePort) (told : Option (List (List ℕ))) (at : ℕ) → AreSectors image told at 0 []
+no-sectors image told at = record {
+  long = refl;
+  are = λ tells. IfSome-each told (λ files e. λ base history stands over. refl);
+}
+
+pub none-written : (image : ImagePort) (told : Option (List (List ℕ))) (at count : ℕ) (old new : Option (List ℕ)) → Keeps old new → WritesFront image told at count old new
+none-written image told at count old new keeps = record {
+  part = 0;
+  within = omega arith;
+  bytes = [];
+  sectors = no-sectors image told at;
+  front = AppendsFront-none old new [] keeps;
+}

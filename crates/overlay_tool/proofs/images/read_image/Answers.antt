@@ -1,0 +1,57 @@
+use Rattle.std.proofs.Common.{◌≡◌, ℕ, ◌+◌, ◌≤◌, IsTrue, List, [], refl, sym, ap, ◌∙◌, subst, arith}
+use Rattle.std.specs.Prelude.{Option, OnOk, OnErr, IfErr}
+use Rattle.block_disk.specs.DiskState.{Leaves}
+use Rattle.flat_image.specs.declared.base.Base.{Base}
+use Rattle.overlay_tool.specs.declared.words.Command.TheVariants.{Read}
+use Rattle.overlay_tool.specs.declared.refusal.Refusal.{Refusal}
+use Rattle.overlay_tool.specs.Causes.{Ports}
+use Rattle.overlay_tool.specs.Images.{DiskPort, Opens, Does}
+use Rattle.overlay_tool.specs.ImageCauses.{ImageCause}
+use Rattle.overlay_tool.specs.ImageSteps.{ImagePort, Stands, disk_of, Adds, WritesSectors, WritesFront, ReadCause}
+use Rattle.overlay_tool.proofs.Answered.{ok-both, err-both}
+use Rattle.overlay_tool.proofs.ImageLaws.{lowers-count, size-is}
+use Rattle.overlay_tool.proofs.ReadLaws.{read-done, read-failed}
+use Rattle.overlay_tool.proofs.images.read_image.Goals as goal
+
+pub copy_sectors-result-requires-clause-count : goal.copy_sectors-result-requires-clause-count
+copy_sectors-result-requires-clause-count g c =
+    let image : ImagePort = record { tells = g.D.Disk.tells; state = g.D.Disk.state c.in-Ok.image.disk; faults = g.D.Disk.faults c.in-Ok.image.disk; parts = c.in-Ok.image.parts } in
+    let opened = c.in-Ok.ensures.opened in
+    c.in-Ok.ensures.same_count ∙ lowers-count image opened.0 opened.3 (g.S.Shelf.files c.args.shelf.now) (g.S.Shelf.count c.args.shelf.now) opened.1
+
+pub returns-clause-done : goal.returns-clause-done
+returns-clause-done g c =
+    let image : ImagePort = record { tells = g.D.Disk.tells; state = g.D.Disk.state c.in-Ok.image.disk; faults = g.D.Disk.faults c.in-Ok.image.disk; parts = c.in-Ok.image.parts } in
+    let new : ImagePort = record { tells = g.D.Disk.tells; state = g.D.Disk.state c.copy_sectors-result.new.image.disk; faults = g.D.Disk.faults c.copy_sectors-result.new.image.disk; parts = c.copy_sectors-result.new.image.parts } in
+    let disk : DiskPort = record { tells = g.D.Disk.tells; state = g.D.Disk.state c.args.disk; faults = g.D.Disk.faults c.args.disk } in
+    let opened = c.in-Ok.ensures.opened in
+    let told = g.S.Shelf.files c.args.shelf.now in
+    let told' = g.S.Shelf.files c.open_image.new.shelf in
+    let same : told' ≡ told = c.in-Ok.ensures.same_files in
+    let inside : c.args.at + c.args.count ≤ opened.0.sectors = (let in_size = c.is_within.ensures.0 c.if-not-is_within.false in let size = size-is image opened.0 opened.3 in let is = c.sectors.ensures in omega (arith, in_size, size, is)) in
+    λ left left_now source source_now.
+    let before : Ports = record { left = left; source_faults = source; written = g.B.Sink.written c.args.out.now; sink_faults = g.B.Sink.faults c.args.out.now; files = told; count = g.S.Shelf.count c.args.shelf.now; shelf_faults = g.S.Shelf.faults c.args.shelf.now } in
+    let now : Ports = record { left = left_now; source_faults = source_now; written = g.B.Sink.written c.copy_sectors-result.new.out; sink_faults = g.B.Sink.faults c.copy_sectors-result.new.out; files = g.S.Shelf.files c.copy_sectors-result.new.shelf; count = g.S.Shelf.count c.copy_sectors-result.new.shelf; shelf_faults = g.S.Shelf.faults c.copy_sectors-result.new.shelf } in
+    let opens : Opens (Read c.args.at c.args.count) before disk [] opened.0 = record { takes = refl; over = opened.1; starts = opened.2 } in
+    rw c.into_disk-2.ensures (read-done c.args.at c.args.count before now disk image new opened.0 (λ t. t) opens inside opened.3 c.copy_sectors-result.result
+    (λ tells f. g.met.D.Disk.seen_may_stay c.copy_sectors-result.new.image.disk f tells) c.copy_sectors-result.ensures.adds
+    (subst (λ (o : Option (List (List ℕ))). OnOk c.copy_sectors-result.result (WritesSectors image o c.args.at c.args.count before.written now.written)) same c.copy_sectors-result.ensures.done))
+
+pub returns-clause-refused : goal.returns-clause-refused
+returns-clause-refused g c =
+    let image : ImagePort = record { tells = g.D.Disk.tells; state = g.D.Disk.state c.in-Ok.image.disk; faults = g.D.Disk.faults c.in-Ok.image.disk; parts = c.in-Ok.image.parts } in
+    let new : ImagePort = record { tells = g.D.Disk.tells; state = g.D.Disk.state c.copy_sectors-result.new.image.disk; faults = g.D.Disk.faults c.copy_sectors-result.new.image.disk; parts = c.copy_sectors-result.new.image.parts } in
+    let disk : DiskPort = record { tells = g.D.Disk.tells; state = g.D.Disk.state c.args.disk; faults = g.D.Disk.faults c.args.disk } in
+    let opened = c.in-Ok.ensures.opened in
+    let told = g.S.Shelf.files c.args.shelf.now in
+    let told' = g.S.Shelf.files c.open_image.new.shelf in
+    let same : told' ≡ told = c.in-Ok.ensures.same_files in
+    let inside : c.args.at + c.args.count ≤ opened.0.sectors = (let in_size = c.is_within.ensures.0 c.if-not-is_within.false in let size = size-is image opened.0 opened.3 in let is = c.sectors.ensures in omega (arith, in_size, size, is)) in
+    λ left left_now source source_now.
+    let before : Ports = record { left = left; source_faults = source; written = g.B.Sink.written c.args.out.now; sink_faults = g.B.Sink.faults c.args.out.now; files = told; count = g.S.Shelf.count c.args.shelf.now; shelf_faults = g.S.Shelf.faults c.args.shelf.now } in
+    let now : Ports = record { left = left_now; source_faults = source_now; written = g.B.Sink.written c.copy_sectors-result.new.out; sink_faults = g.B.Sink.faults c.copy_sectors-result.new.out; files = g.S.Shelf.files c.copy_sectors-result.new.shelf; count = g.S.Shelf.count c.copy_sectors-result.new.shelf; shelf_faults = g.S.Shelf.faults c.copy_sectors-result.new.shelf } in
+    let opens : Opens (Read c.args.at c.args.count) before disk [] opened.0 = record { takes = refl; over = opened.1; starts = opened.2 } in
+    rw c.into_disk-2.ensures (read-failed c.args.at c.args.count before now disk image new opened.0 (λ t. t) opens inside opened.3 c.copy_sectors-result.result
+    (g.S.Shelf.faults c.open_image.new.shelf) (g.B.Sink.faults c.args.out.now) c.in-Ok.ensures.later c.in-Ok.ensures.shelf_later (omega arith)
+    (subst (λ (o : Option (List (List ℕ))). OnErr c.copy_sectors-result.result (WritesFront image o c.args.at c.args.count before.written now.written)) same c.copy_sectors-result.ensures.front)
+    c.copy_sectors-result.ensures.refused)

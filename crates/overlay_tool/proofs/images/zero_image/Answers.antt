@@ -1,0 +1,55 @@
+use Rattle.std.proofs.Common.{◌≡◌, ℕ, ◌+◌, ◌*◌, ◌/◌, ◌≤◌, IsTrue, List, [], length, refl, sym, ap, ◌∙◌, subst, arith}
+use Rattle.std.specs.Prelude.{Option, Some, OnOk, OnErr, IfErr}
+use Rattle.std.specs.Io.KnownBytes.{Appends}
+use Rattle.block_disk.specs.DiskState.{Leaves}
+use Rattle.flat_image.specs.declared.act.Act.{Act}
+use Rattle.flat_image.specs.declared.act.Act.TheVariants as act
+use Rattle.flat_image.specs.declared.base.Base.{Base}
+use Rattle.flat_image.specs.Sectors.{sector_count}
+use Rattle.overlay_tool.specs.declared.words.Command.{Command}
+use Rattle.overlay_tool.specs.declared.words.Command.TheVariants.{Write, Zero}
+use Rattle.overlay_tool.specs.Reports.{wrote_line, zeroed_line}
+use Rattle.overlay_tool.specs.Causes.{Ports}
+use Rattle.overlay_tool.specs.Images.{DiskPort, Opens, kept_act}
+use Rattle.overlay_tool.specs.ImageSteps.{ImagePort, Adds, TellCause}
+use Rattle.overlay_tool.proofs.ImageLaws.{size-is}
+use Rattle.overlay_tool.proofs.TellLaws.{change-done, change-failed}
+use Rattle.overlay_tool.proofs.images.zero_image.Goals as goal
+
+pub returns-clause-done : goal.returns-clause-done
+returns-clause-done g c =
+    let old : ImagePort = record { tells = g.D.Disk.tells; state = g.D.Disk.state c.in-Ok.image.disk; faults = g.D.Disk.faults c.in-Ok.image.disk; parts = c.in-Ok.image.parts } in
+    let new : ImagePort = record { tells = g.D.Disk.tells; state = g.D.Disk.state c.zero_told-result.new.image.disk; faults = g.D.Disk.faults c.zero_told-result.new.image.disk; parts = c.zero_told-result.new.image.parts } in
+    let disk : DiskPort = record { tells = g.D.Disk.tells; state = g.D.Disk.state c.args.disk; faults = g.D.Disk.faults c.args.disk } in
+    let opened = c.in-Ok.ensures.opened in
+    let place : c.extent_of.result.at ≡ c.args.at = c.extent_of.ensures.place in
+    let many : c.extent_of.result.count ≡ c.args.count = c.extent_of.ensures.count in
+    let inside : c.args.at + c.args.count ≤ opened.0.sectors = (let in_size = c.is_within.ensures.0 c.if-not-is_within.false in let size = size-is old opened.0 opened.3 in let is = c.sectors.ensures in omega (arith, in_size, size, is)) in
+    λ left left_now source source_now.
+    let before : Ports = record { left = left; source_faults = source; written = g.B.Sink.written c.args.out.now; sink_faults = g.B.Sink.faults c.args.out.now; files = g.S.Shelf.files c.args.shelf.now; count = g.S.Shelf.count c.args.shelf.now; shelf_faults = g.S.Shelf.faults c.args.shelf.now } in
+    let now : Ports = record { left = left_now; source_faults = source_now; written = g.B.Sink.written c.zero_told-result.new.out; sink_faults = g.B.Sink.faults c.zero_told-result.new.out; files = g.S.Shelf.files c.open_image.new.shelf; count = g.S.Shelf.count c.open_image.new.shelf; shelf_faults = g.S.Shelf.faults c.open_image.new.shelf } in
+    let opens : Opens (Zero c.args.at c.args.count) before disk ([]) opened.0 = record { takes = refl; over = opened.1; starts = opened.2 } in
+    let adds = subst (λ (n : ℕ). OnOk c.zero_told-result.result (Adds (kept_act (Some (act.Zero c.args.at n))) old new)) many
+    (subst (λ (a : ℕ). OnOk c.zero_told-result.result (Adds (kept_act (Some (act.Zero a c.extent_of.result.count))) old new)) place c.zero_told-result.ensures.adds) in
+    let told = subst (λ (n : ℕ). OnOk c.zero_told-result.result (Appends before.written now.written (zeroed_line c.args.at n))) many
+    (subst (λ (a : ℕ). OnOk c.zero_told-result.result (Appends before.written now.written (zeroed_line a c.extent_of.result.count))) place c.zero_told-result.ensures.told) in
+    rw c.into_disk-2.ensures (change-done (Zero c.args.at c.args.count) ([]) (zeroed_line c.args.at c.args.count) (act.Zero c.args.at c.args.count) before now disk old new opened.0 refl tt refl opens inside opened.3 refl c.zero_told-result.result
+    (λ tells f. g.met.D.Disk.seen_may_stay c.zero_told-result.new.image.disk f tells) adds told)
+
+pub returns-clause-refused : goal.returns-clause-refused
+returns-clause-refused g c =
+    let old : ImagePort = record { tells = g.D.Disk.tells; state = g.D.Disk.state c.in-Ok.image.disk; faults = g.D.Disk.faults c.in-Ok.image.disk; parts = c.in-Ok.image.parts } in
+    let new : ImagePort = record { tells = g.D.Disk.tells; state = g.D.Disk.state c.zero_told-result.new.image.disk; faults = g.D.Disk.faults c.zero_told-result.new.image.disk; parts = c.zero_told-result.new.image.parts } in
+    let disk : DiskPort = record { tells = g.D.Disk.tells; state = g.D.Disk.state c.args.disk; faults = g.D.Disk.faults c.args.disk } in
+    let opened = c.in-Ok.ensures.opened in
+    let place : c.extent_of.result.at ≡ c.args.at = c.extent_of.ensures.place in
+    let many : c.extent_of.result.count ≡ c.args.count = c.extent_of.ensures.count in
+    let inside : c.args.at + c.args.count ≤ opened.0.sectors = (let in_size = c.is_within.ensures.0 c.if-not-is_within.false in let size = size-is old opened.0 opened.3 in let is = c.sectors.ensures in omega (arith, in_size, size, is)) in
+    λ left left_now source source_now.
+    let before : Ports = record { left = left; source_faults = source; written = g.B.Sink.written c.args.out.now; sink_faults = g.B.Sink.faults c.args.out.now; files = g.S.Shelf.files c.args.shelf.now; count = g.S.Shelf.count c.args.shelf.now; shelf_faults = g.S.Shelf.faults c.args.shelf.now } in
+    let now : Ports = record { left = left_now; source_faults = source_now; written = g.B.Sink.written c.zero_told-result.new.out; sink_faults = g.B.Sink.faults c.zero_told-result.new.out; files = g.S.Shelf.files c.open_image.new.shelf; count = g.S.Shelf.count c.open_image.new.shelf; shelf_faults = g.S.Shelf.faults c.open_image.new.shelf } in
+    let opens : Opens (Zero c.args.at c.args.count) before disk ([]) opened.0 = record { takes = refl; over = opened.1; starts = opened.2 } in
+    let cause = subst (λ (n : ℕ). IfErr c.zero_told-result.result (TellCause (act.Zero c.args.at n) (zeroed_line c.args.at n) old new before.sink_faults now.sink_faults before.written now.written)) many
+    (subst (λ (a : ℕ). IfErr c.zero_told-result.result (TellCause (act.Zero a c.extent_of.result.count) (zeroed_line a c.extent_of.result.count) old new before.sink_faults now.sink_faults before.written now.written)) place c.zero_told-result.ensures.refused) in
+    rw c.into_disk-2.ensures (change-failed (Zero c.args.at c.args.count) ([]) (zeroed_line c.args.at c.args.count) (act.Zero c.args.at c.args.count) before now disk old new opened.0 refl tt refl opens inside opened.3 refl c.zero_told-result.result
+    before.sink_faults c.in-Ok.ensures.later (omega arith) cause)

@@ -1,0 +1,132 @@
+//! Changes sectors of an image, and flushes it.
+ghost use Rattle.std.specs.Prelude.{◌≡◌, ℕ, ◌+◌, ◌*◌, ◌^◌, ◌<◌, ◌≤◌, length, Some, IfErr, OnOk};
+ghost use Rattle.flat_image.specs.declared.act.Act.TheVariants.{Write, Zero};
+ghost use Rattle.image_core.specs.Parts.{parts_view, IsStanding};
+ghost use Rattle.overlay_tool.specs.Images.{kept_act};
+ghost use Rattle.std.specs.Io.KnownBytes.{Appends};
+ghost use Rattle.overlay_tool.specs.Reports.{wrote_line, zeroed_line};
+ghost use Rattle.overlay_tool.specs.ImageSteps.{Adds, ChangeCause, TellCause, change_refused_as};
+
+use crate::commands::write_text;
+use crate::refusal::Refusal;
+use crate::reports::{wrote_report, zeroed_report};
+use block_disk::Disk;
+use byte_ports::Sink;
+use image_core::Image;
+use sector_extent::Extent;
+use std::alloc::Global;
+use top_writer::WriteFault;
+
+/// What the fault of a change is refused as.
+fn change_refusal(fault: WriteFault) -> Refusal
+    ensures { result ≡ change_refused_as fault }
+{
+    match fault {
+        WriteFault::Full { rows, sectors } => Refusal::Full { rows, sectors },
+        WriteFault::Memory => Refusal::Memory,
+        WriteFault::Failed => Refusal::DiskFault,
+    }
+}
+
+/// Writes the sectors of an extent within the image, and flushes it.
+pub fn write_kept<D: Disk>(
+    image: &mut Image<D>,
+    extent: Extent,
+    bytes: &[u8],
+) -> Result<(), Refusal>
+    requires standing { IsStanding D.tells (D.state image.old.disk) (D.faults image.old.disk) image.old.parts }
+    requires size { length bytes.now ≡ 512 * extent.count }
+    requires within { extent.at + extent.count ≤ (parts_view image.old.parts).sectors }
+    requires steps { (parts_view image.old.parts).steps < 2 ^ 61 }
+    ensures adds { OnOk result (Adds (kept_act (Some (Write extent.at bytes.now)))
+        (record { tells = D.tells; state = D.state image.old.disk; faults = D.faults image.old.disk; parts = image.old.parts })
+        (record { tells = D.tells; state = D.state image.new.disk; faults = D.faults image.new.disk; parts = image.new.parts })) }
+    ensures refused { IfErr result (ChangeCause (Write extent.at bytes.now)
+        (record { tells = D.tells; state = D.state image.old.disk; faults = D.faults image.old.disk; parts = image.old.parts })
+        (record { tells = D.tells; state = D.state image.new.disk; faults = D.faults image.new.disk; parts = image.new.parts })) }
+    ensures later { D.faults image.old.disk ≤ D.faults image.new.disk }
+{
+    match image.write(extent, bytes) {
+        Ok(()) => {}
+        Err(fault) => return Err(change_refusal(fault)),
+    }
+    match image.flush() {
+        Ok(()) => Ok(()),
+        Err(_) => Err(Refusal::DiskFault),
+    }
+}
+
+/// Makes the sectors of an extent within the image zeros, and flushes it.
+pub fn zero_kept<D: Disk>(image: &mut Image<D>, extent: Extent) -> Result<(), Refusal>
+    requires standing { IsStanding D.tells (D.state image.old.disk) (D.faults image.old.disk) image.old.parts }
+    requires within { extent.at + extent.count ≤ (parts_view image.old.parts).sectors }
+    requires steps { (parts_view image.old.parts).steps < 2 ^ 61 }
+    ensures adds { OnOk result (Adds (kept_act (Some (Zero extent.at extent.count)))
+        (record { tells = D.tells; state = D.state image.old.disk; faults = D.faults image.old.disk; parts = image.old.parts })
+        (record { tells = D.tells; state = D.state image.new.disk; faults = D.faults image.new.disk; parts = image.new.parts })) }
+    ensures refused { IfErr result (ChangeCause (Zero extent.at extent.count)
+        (record { tells = D.tells; state = D.state image.old.disk; faults = D.faults image.old.disk; parts = image.old.parts })
+        (record { tells = D.tells; state = D.state image.new.disk; faults = D.faults image.new.disk; parts = image.new.parts })) }
+    ensures later { D.faults image.old.disk ≤ D.faults image.new.disk }
+{
+    match image.zero(extent) {
+        Ok(()) => {}
+        Err(fault) => return Err(change_refusal(fault)),
+    }
+    match image.flush() {
+        Ok(()) => Ok(()),
+        Err(_) => Err(Refusal::DiskFault),
+    }
+}
+
+/// The same, and then the line that tells of it.
+pub fn write_told<B: Sink, D: Disk>(
+    alloc: Global,
+    image: &mut Image<D>,
+    extent: Extent,
+    bytes: &[u8],
+    out: &mut B,
+) -> Result<(), Refusal>
+    requires standing { IsStanding D.tells (D.state image.old.disk) (D.faults image.old.disk) image.old.parts }
+    requires size { length bytes.now ≡ 512 * extent.count }
+    requires within { extent.at + extent.count ≤ (parts_view image.old.parts).sectors }
+    requires steps { (parts_view image.old.parts).steps < 2 ^ 61 }
+    ensures adds { OnOk result (Adds (kept_act (Some (Write extent.at bytes.now)))
+        (record { tells = D.tells; state = D.state image.old.disk; faults = D.faults image.old.disk; parts = image.old.parts })
+        (record { tells = D.tells; state = D.state image.new.disk; faults = D.faults image.new.disk; parts = image.new.parts })) }
+    ensures told { OnOk result (Appends (B.written out.old) (B.written out.new) (wrote_line extent.at extent.count)) }
+    ensures refused { IfErr result (TellCause (Write extent.at bytes.now) (wrote_line extent.at extent.count)
+        (record { tells = D.tells; state = D.state image.old.disk; faults = D.faults image.old.disk; parts = image.old.parts })
+        (record { tells = D.tells; state = D.state image.new.disk; faults = D.faults image.new.disk; parts = image.new.parts })
+        (B.faults out.old) (B.faults out.new) (B.written out.old) (B.written out.new)) }
+    ensures later { D.faults image.old.disk ≤ D.faults image.new.disk }
+{
+    write_kept(image, extent, bytes)?;
+    let line = wrote_report(alloc, extent.at as u64, extent.count as u64)?;
+    write_text(line.as_bytes(), out)
+}
+
+/// The same, and then the line that tells of it.
+pub fn zero_told<B: Sink, D: Disk>(
+    alloc: Global,
+    image: &mut Image<D>,
+    extent: Extent,
+    out: &mut B,
+) -> Result<(), Refusal>
+    requires standing { IsStanding D.tells (D.state image.old.disk) (D.faults image.old.disk) image.old.parts }
+    requires within { extent.at + extent.count ≤ (parts_view image.old.parts).sectors }
+    requires steps { (parts_view image.old.parts).steps < 2 ^ 61 }
+    ensures adds { OnOk result (Adds (kept_act (Some (Zero extent.at extent.count)))
+        (record { tells = D.tells; state = D.state image.old.disk; faults = D.faults image.old.disk; parts = image.old.parts })
+        (record { tells = D.tells; state = D.state image.new.disk; faults = D.faults image.new.disk; parts = image.new.parts })) }
+    ensures told { OnOk result (Appends (B.written out.old) (B.written out.new) (zeroed_line extent.at extent.count)) }
+    ensures refused { IfErr result (TellCause (Zero extent.at extent.count) (zeroed_line extent.at extent.count)
+        (record { tells = D.tells; state = D.state image.old.disk; faults = D.faults image.old.disk; parts = image.old.parts })
+        (record { tells = D.tells; state = D.state image.new.disk; faults = D.faults image.new.disk; parts = image.new.parts })
+        (B.faults out.old) (B.faults out.new) (B.written out.old) (B.written out.new)) }
+    ensures later { D.faults image.old.disk ≤ D.faults image.new.disk }
+{
+    zero_kept(image, extent)?;
+    let line = zeroed_report(alloc, extent.at as u64, extent.count as u64)?;
+    write_text(line.as_bytes(), out)
+}

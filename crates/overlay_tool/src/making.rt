@@ -1,0 +1,114 @@
+//! Makes an image over the layers of a shelf.
+ghost use Rattle.std.specs.Prelude.{◌≡◌, ℕ, ◌≤◌, length, IfOk, IfErr, IfSome, OnOk, MatchResult};
+ghost use Rattle.std.specs.Io.KnownBytes.{Appends};
+ghost use Rattle.lsmt_header.specs.Blocks.{IsSize};
+ghost use Rattle.image_core.specs.Loading.{AreStackOrNone};
+ghost use Rattle.image_core.specs.Creating.{AreLegal};
+ghost use Rattle.overlay_tool.specs.Reports.{created_line};
+ghost use Rattle.overlay_tool.specs.Images.{IsSizeFor};
+ghost use Rattle.overlay_tool.specs.ImageSteps.{IsMade, SizeCause, MakeCause, LineCause, create_refused_as};
+
+use crate::commands::write_text;
+use crate::refusal::Refusal;
+use crate::reports::created_report;
+use crate::stacks::read_lowers;
+use block_disk::Disk;
+use byte_ports::Sink;
+use image_core::{CreateFault, Image, LayerList};
+use layer_shelf::Shelf;
+use sealed_layer::Layer;
+use std::alloc::Global;
+
+/// The sectors of a layer.
+fn layer_size(layer: &Layer) -> u64
+    ensures is { result ≡ layer.now.head.sectors }
+    ensures size { IsSize result }
+{
+    let _rows = layer.rows();
+    layer.head().sectors
+}
+
+/// The size of a new image over these layers: the one that was asked for, or theirs.
+fn size_over(asked: Option<u64>, layers: &[Layer]) -> Result<u64, Refusal>
+    requires stack { AreStackOrNone layers.now }
+    requires size { IfSome asked IsSize }
+    ensures size { IfOk result IsSize }
+    ensures legal { IfOk result (λ sectors. AreLegal sectors layers.now) }
+    ensures asked { IfOk result (λ sectors. IsSizeFor asked (length layers.now) sectors) }
+    ensures refused { IfErr result (SizeCause asked layers.now) }
+{
+    let Some(lowest) = layers.first() else {
+        return match asked {
+            Some(sectors) => Ok(sectors),
+            None => Err(Refusal::NoSize),
+        };
+    };
+    let own = layer_size(lowest);
+    match asked {
+        Some(sectors) => {
+            if sectors != own {
+                return Err(Refusal::OtherSize);
+            }
+            Ok(own)
+        }
+        None => Ok(own),
+    }
+}
+
+/// What a fault of a creation is refused as.
+fn create_refusal(fault: CreateFault) -> Refusal
+    ensures { result ≡ create_refused_as fault }
+{
+    match fault {
+        CreateFault::Exists => Refusal::ImageExists,
+        CreateFault::Memory => Refusal::Memory,
+        CreateFault::Failed => Refusal::DiskFault,
+    }
+}
+
+/// Makes an image on the disk over the shelf's layers.
+pub fn make_image<S: Shelf, D: Disk>(
+    alloc: Global,
+    asked: Option<u64>,
+    shelf: &mut S,
+    disk: D,
+) -> Result<Image<D>, (D, Refusal)>
+    requires { IfSome asked IsSize }
+    ensures made { IfOk result (λ image. IsMade asked (S.files shelf.old) (S.count shelf.old)
+        (record { tells = D.tells; state = D.state disk; faults = D.faults disk })
+        (record { tells = D.tells; state = D.state image.disk; faults = D.faults image.disk; parts = image.parts })) }
+    ensures refused { IfErr result (λ refusal. MakeCause asked (S.files shelf.old) (S.count shelf.old) (S.faults shelf.old) (S.faults shelf.new)
+        (record { tells = D.tells; state = D.state disk; faults = D.faults disk })
+        (record { tells = D.tells; state = D.state refusal.0; faults = D.faults refusal.0 }) refusal.1) }
+    ensures later { MatchResult result (λ image. D.faults disk ≤ D.faults image.disk) (λ refusal. D.faults disk ≤ D.faults refusal.0) }
+    ensures shelf_later { S.faults shelf.old ≤ S.faults shelf.new }
+    ensures same_files { S.files shelf.new ≡ S.files shelf.old }
+    ensures same_count { S.count shelf.new ≡ S.count shelf.old }
+{
+    let layers = match read_lowers(alloc, shelf) {
+        Ok(layers) => layers,
+        Err(refusal) => return Err((disk, refusal)),
+    };
+    let sectors = match size_over(asked, layers.as_slice()) {
+        Ok(sectors) => sectors,
+        Err(refusal) => return Err((disk, refusal)),
+    };
+    match Image::create(alloc, disk, LayerList::from_vec(layers), sectors) {
+        Ok(image) => Ok(image),
+        Err((disk, fault)) => Err((disk, create_refusal(fault))),
+    }
+}
+
+/// Tells that an image was made.
+pub fn print_created<B: Sink>(
+    alloc: Global,
+    sectors: u64,
+    layers: u64,
+    out: &mut B,
+) -> Result<(), Refusal>
+    ensures told { OnOk result (Appends (B.written out.old) (B.written out.new) (created_line sectors layers)) }
+    ensures refused { IfErr result (LineCause (created_line sectors layers) (B.faults out.old) (B.faults out.new) (B.written out.old) (B.written out.new)) }
+{
+    let line = created_report(alloc, sectors, layers)?;
+    write_text(line.as_bytes(), out)
+}
