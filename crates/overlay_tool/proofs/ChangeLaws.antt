@@ -1,13 +1,13 @@
 -- A change of an image, and the flush behind it.
-use Rattle.std.proofs.Common.{◌≡◌, ℕ, ◌+◌, ◌*◌, ◌^◌, ◌<◌, ◌≤◌, Bool, List, [], ◌∷◌, ◌++◌, length, refl, sym, ap, ◌∙◌, subst, arith, length-append}
-use Rattle.std.specs.Prelude.{Option, Some, None, Result, Err, ◌↔◌}
+use Rattle.std.proofs.Common.{◌≡◌, ℕ, ◌+◌, ◌<◌, Bool, [], ◌∷◌, ◌++◌, refl, ap, ◌∙◌, subst, arith, length-append}
+use Rattle.std.specs.Prelude.{Some, Result, Err, ◌↔◌}
 use Rattle.std.specs.Result.{IsErrOf}
 use Rattle.block_disk.specs.DiskState.{DiskState}
 use Rattle.flat_image.specs.declared.act.Act.{Act}
 use Rattle.flat_image.specs.declared.act.Act.TheVariants as act
 use Rattle.flat_image.specs.declared.act.Asked.TheVariants.{Nothing}
-use Rattle.flat_image.specs.Entries.{entry, StartsWith}
-use Rattle.flat_image.specs.History.{History, IsOver, rows_taken, sectors_taken}
+use Rattle.flat_image.specs.Entries.{entry}
+use Rattle.flat_image.specs.History.{IsOver, rows_taken, sectors_taken}
 use Rattle.top_writer.specs.declared.fault.WriteFault.{WriteFault}
 use Rattle.top_writer.specs.declared.fault.WriteFault.TheVariants.{Full, Memory, Failed}
 use Rattle.image_core.specs.declared.parts.Parts.{Parts}

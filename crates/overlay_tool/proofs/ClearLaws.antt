@@ -1,5 +1,5 @@
 -- Where nothing stands in the way of a command on an image, only want of memory refuses it.
-use Rattle.std.proofs.Common.{◌≡◌, ◌≢◌, ℕ, ◌+◌, ◌*◌, ◌/◌, ◌%◌, ◌<◌, ◌≤◌, Bool, true, false, IsTrue, List, [], ◌∷◌, ◌++◌, length, refl, sym, ap, ◌∙◌, subst, arith, inl, inr}
+use Rattle.std.proofs.Common.{◌≡◌, ◌≢◌, ℕ, ◌+◌, ◌%◌, ◌<◌, ◌≤◌, IsTrue, List, [], ◌∷◌, length, refl, sym, ap, ◌∙◌, subst, arith, inl, inr}
 use Rattle.std.specs.Prelude.{Option, Some, None, IfSome, ◌⊎◌}
 use Rattle.block_disk.specs.DiskState.{Files}
 use Rattle.lsmt_header.specs.declared.head.Head.{Head}
@@ -12,7 +12,6 @@ use Rattle.layer_stack.specs.Faults.{IsStackFault}
 use Rattle.image_core.specs.declared.loading.LoadFault.{LoadFault}
 use Rattle.image_core.specs.Shows.{Shows}
 use Rattle.image_core.specs.View.{AreLayersOf}
-use Rattle.image_core.specs.Loading.{IsLoadReason}
 use Rattle.image_core.proofs.ShownBase.{shows-one_base}
 use Rattle.image_core.proofs.Reopening.{reopens}
 use Rattle.overlay_tool.specs.declared.words.Command.{Command}
@@ -21,7 +20,7 @@ use Rattle.overlay_tool.specs.declared.refusal.Refusal.{Refusal}
 use Rattle.overlay_tool.specs.declared.refusal.Refusal.TheVariants as refused
 use Rattle.overlay_tool.specs.Prints.{LayerSheet, AreLayers, heads_of, sectors_of}
 use Rattle.overlay_tool.specs.Causes.{Ports, StopsAt}
-use Rattle.overlay_tool.specs.Images.{DiskPort, IsInput, LiesOver, act_of, reach_of}
+use Rattle.overlay_tool.specs.Images.{DiskPort, LiesOver, act_of, reach_of}
 use Rattle.overlay_tool.specs.ImageCauses.{IsCreate, HaveOtherSize, HoldsNone, GoesPast, IsFull, ImageCause}
 use Rattle.overlay_tool.specs.Texts.{code_of}
 use Rattle.overlay_tool.specs.Runs as runs

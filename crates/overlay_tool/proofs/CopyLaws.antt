@@ -1,6 +1,6 @@
 -- Sectors of an image, piece by piece.
-use Rattle.std.proofs.Common.{◌≡◌, ℕ, zero, suc, ◌+◌, ◌-◌, ◌*◌, ◌<◌, ◌≤◌, min, Bool, true, false, IsTrue, List, [], ◌∷◌, ◌++◌, length, take, drop, refl, sym, ap, ◌∙◌, subst, arith, inl, inr, append_assoc, append-nil, length-append}
-use Rattle.std.specs.Prelude.{Option, Some, None, IfSome, Err}
+use Rattle.std.proofs.Common.{◌≡◌, ℕ, zero, suc, ◌+◌, ◌*◌, ◌<◌, ◌≤◌, Bool, IsTrue, List, [], ◌∷◌, ◌++◌, length, take, drop, refl, sym, ap, ◌∙◌, subst, arith, length-append}
+use Rattle.std.specs.Prelude.{Option, IfSome, Err}
 use Rattle.std.specs.Result.{IsErrOf}
 use Rattle.std.proofs.Math.Seq.{take-add, drop-nil}
 use Rattle.std.proofs.lemmas.List.Folds.{concat-append}
@@ -12,17 +12,15 @@ use Rattle.image_core.specs.declared.parts.Parts.{Parts}
 use Rattle.image_core.specs.Parts.{Goes}
 use Rattle.flat_image.specs.declared.base.Base.{Base}
 use Rattle.flat_image.specs.History.{History, after, reply}
-use Rattle.flat_image.specs.Sheets.{bytes_of, IsImage}
-use Rattle.std.specs.Io.KnownBytes.{Appends, Keeps}
-use Rattle.std.proofs.KnownBytes.{Appends-trans, Appends-nil}
-use Rattle.byte_ports.specs.Ports.{AppendsFront}
+use Rattle.flat_image.specs.Sheets.{bytes_of}
+use Rattle.std.proofs.KnownBytes.{Appends-trans}
 use Rattle.byte_ports.proofs.Chains.{AppendsFront-after}
 use Rattle.overlay_tool.specs.declared.refusal.Refusal.{Refusal}
 use Rattle.overlay_tool.specs.declared.refusal.Refusal.TheVariants as refused
 use Rattle.image_core.specs.declared.whole.WholeFault.{WholeFault}
 use Rattle.image_core.specs.declared.whole.WholeFault.TheVariants.{Memory, DiskFault, ShelfFault}
 use Rattle.image_core.specs.Whole.{noted_whole}
-use Rattle.overlay_tool.specs.ImageSteps.{ImagePort, Stands, size_of, Adds, fault, without_reads, AreSectors, WritesSectors, WritesFront, ReadCause, whole_cause}
+use Rattle.overlay_tool.specs.ImageSteps.{ImagePort, Stands, Adds, fault, AreSectors, WritesSectors, WritesFront, ReadCause, whole_cause}
 use Rattle.overlay_tool.proofs.Pieces.{IfSome-at, IfSome-each}
 use Rattle.overlay_tool.proofs.WithoutReads.{reply-read}
 use Rattle.overlay_tool.proofs.ImageAdds.{adds-none, adds-act, adds-joined}

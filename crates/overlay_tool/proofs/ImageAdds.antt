@@ -1,21 +1,18 @@
 -- What steps add to the history for which an image stands.
-use Rattle.std.proofs.Common.{◌≡◌, ℕ, ◌+◌, ◌*◌, ◌<◌, ◌≤◌, Bool, true, false, IsTrue, List, [], ◌∷◌, ◌++◌, length, refl, sym, ap, ◌∙◌, subst, arith, inl, inr, append_assoc, append-nil, length-append}
-use Rattle.std.specs.Prelude.{Option, Some, None, IfSome}
-use Rattle.std.specs.Io.KnownBytes.{Appends, Keeps}
-use Rattle.std.proofs.KnownBytes.{Appends-trans, Keeps-refl}
-use Rattle.byte_ports.specs.Ports.{AppendsFront}
-use Rattle.byte_ports.proofs.Chains.{AppendsFront-none, AppendsFront-after}
+use Rattle.std.proofs.Common.{◌≡◌, ℕ, Bool, List, [], ◌∷◌, ◌++◌, refl, sym, ap, ◌∙◌, subst, arith, append_assoc, append-nil}
+use Rattle.std.specs.Prelude.{Option, Some, None}
+use Rattle.std.specs.Io.KnownBytes.{Keeps}
+use Rattle.byte_ports.proofs.Chains.{AppendsFront-none}
 use Rattle.block_disk.specs.DiskState.{DiskState}
 use Rattle.flat_image.specs.declared.act.Act.{Act}
 use Rattle.flat_image.specs.declared.act.Act.TheVariants.{Read}
-use Rattle.flat_image.specs.declared.base.Base.{Base}
 use Rattle.flat_image.specs.Entries.{entry}
-use Rattle.flat_image.specs.History.{History, reply}
+use Rattle.flat_image.specs.History.{History}
 use Rattle.image_core.specs.declared.parts.Parts.{Parts}
-use Rattle.image_core.specs.Parts.{parts_view, ImageStands, IsStanding, Goes}
-use Rattle.overlay_tool.specs.ImageSteps.{ImagePort, Stands, is_no_read, without_reads, Adds, AreSectors, WritesSectors, WritesFront}
-use Rattle.overlay_tool.proofs.WithoutReads.{without-append, reply-read}
-use Rattle.overlay_tool.proofs.Pieces.{IfSome-at, IfSome-each}
+use Rattle.image_core.specs.Parts.{IsStanding, Goes}
+use Rattle.overlay_tool.specs.ImageSteps.{ImagePort, Stands, without_reads, Adds, AreSectors, WritesFront}
+use Rattle.overlay_tool.proofs.WithoutReads.{without-append}
+use Rattle.overlay_tool.proofs.Pieces.{IfSome-each}
 
 pub adds-nothing : (image : ImagePort) → Adds [] image image
 adds-nothing image = record { stands = λ base history stands. ([], refl, subst (λ (h : History). Stands image base h) (sym (append-nil history)) stands) }

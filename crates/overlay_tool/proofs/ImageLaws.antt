@@ -1,30 +1,25 @@
 -- What an opened image and the acts on it come to, for the command that opened it.
-use Rattle.std.proofs.Common.{◌≡◌, ℕ, ◌+◌, ◌-◌, ◌*◌, ◌^◌, ◌<◌, ◌≤◌, Bool, true, false, IsTrue, List, [], ◌∷◌, ◌++◌, length, take, drop, refl, sym, ap, ◌∙◌, subst, arith, inl, inr, append-nil, length-append}
-use Rattle.std.specs.Prelude.{Option, Some, None, IfSome, ◌⊎◌}
+use Rattle.std.proofs.Common.{◌≡◌, ℕ, ◌+◌, ◌-◌, ◌*◌, ◌^◌, ◌<◌, ◌≤◌, Bool, true, false, IsTrue, List, [], length, take, drop, sym, ap, ◌∙◌, subst, arith}
+use Rattle.std.specs.Prelude.{Option, Some, IfSome}
 use Rattle.std.proofs.lemmas.List.{length-take-le, length-drop}
 use Rattle.std.proofs.lemmas.List.Elements.{All-take, All-drop}
-use Rattle.std.specs.Io.KnownBytes.{Appends, Keeps}
-use Rattle.byte_ports.specs.Ports.{AppendsFront}
-use Rattle.byte_ports.proofs.Chains.{AppendsFront-more}
-use Rattle.block_disk.specs.DiskState.{DiskState, Files, Leaves}
-use Rattle.flat_image.specs.declared.act.Act.{Act}
+use Rattle.block_disk.specs.DiskState.{Files, Leaves}
 use Rattle.flat_image.specs.declared.base.Base.{Base}
-use Rattle.flat_image.specs.Sheets.{bytes_of, IsSector}
-use Rattle.flat_image.specs.Entries.{StartsWith}
-use Rattle.flat_image.specs.History.{History, now, after, reply}
+use Rattle.flat_image.specs.Sheets.{IsSector}
+use Rattle.flat_image.specs.History.{History, after, reply}
 use Rattle.flat_image.proofs.Painting.{length-bytes_of}
 use Rattle.image_core.specs.Shows.{Shows}
 use Rattle.image_core.specs.View.{AreLayersOf}
-use Rattle.image_core.specs.Parts.{parts_view, ImageStands, IsStanding}
+use Rattle.image_core.specs.Parts.{parts_view, IsStanding}
 use Rattle.image_core.specs.Standing.{ShowsLeft, StandsFor}
 use Rattle.image_core.proofs.Lifts.{keeps-stands}
 use Rattle.image_core.proofs.PartsHold.{parts-keep}
 use Rattle.image_core.proofs.StandLaws.{history-reads}
 use Rattle.image_core.proofs.SheetsRead.{layers-length}
 use Rattle.overlay_tool.specs.Images.{DiskPort, LeavesOf, Holds, LiesOver}
-use Rattle.overlay_tool.specs.ImageSteps.{ImagePort, Stands, size_of, disk_of, without_reads, Adds, AreSectors, WritesSectors, WritesFront}
+use Rattle.overlay_tool.specs.ImageSteps.{ImagePort, Stands, size_of, disk_of, Adds, AreSectors}
 use Rattle.overlay_tool.proofs.Pieces.{IfSome-at, IfSome-each}
-use Rattle.overlay_tool.proofs.WithoutReads.{shows-without, shows-none}
+use Rattle.overlay_tool.proofs.WithoutReads.{shows-without}
 
 stands-for : (image : ImagePort) (base : Base) (history : History) → Stands image base history
     → StandsFor image.tells image.state image.faults (parts_view image.parts) base history

@@ -1,25 +1,22 @@
 -- Making an image over the layers of a shelf.
-use Rattle.std.proofs.Common.{◌≡◌, ℕ, ◌+◌, ◌<◌, ◌≤◌, Bool, true, false, IsTrue, List, [], ◌∷◌, ◌++◌, length, map, refl, sym, ap, ◌∙◌, subst, arith, All, inl, inr}
+use Rattle.std.proofs.Common.{◌≡◌, ℕ, ◌<◌, ◌≤◌, Bool, true, false, IsTrue, List, [], ◌∷◌, length, map, refl, sym, ap, ◌∙◌, subst, arith, All, inl, inr}
 use Rattle.std.specs.Prelude.{Option, Some, None, IfSome, ◌≢◌, slice_get, ◌⊎◌, Result, Ok, Err, OnOk, IfErr}
 use Rattle.std.specs.Io.KnownBytes.{Appends, Keeps}
 use Rattle.std.proofs.KnownBytes.{Keeps-refl}
 use Rattle.byte_ports.specs.Ports.{AppendsFront}
 use Rattle.byte_ports.proofs.Chains.{AppendsFront-none}
 use Rattle.std.proofs.lemmas.List.{length-map}
-use Rattle.std.proofs.lemmas.List.Elements.{All-head, All-tail}
-use Rattle.block_disk.specs.DiskState.{DiskState, Files, Leaves}
+use Rattle.std.proofs.lemmas.List.Elements.{All-head}
+use Rattle.block_disk.specs.DiskState.{DiskState, Leaves}
 use Rattle.block_disk.specs.Claims.{Quiet}
 use Rattle.gate_mark.specs.MarkFile.{mark_of}
-use Rattle.lsmt_header.specs.declared.head.Head.{Head}
 use Rattle.flat_image.specs.declared.base.Base.{Base}
 use Rattle.flat_image.specs.Stacks.{Legal}
-use Rattle.flat_image.specs.History.{History}
 use Rattle.sealed_layer.specs.Layers.{LayerIndex}
 use Rattle.image_core.specs.declared.creating.CreateFault.{CreateFault}
 use Rattle.image_core.specs.declared.creating.CreateFault.TheVariants as create
 use Rattle.image_core.specs.declared.parts.Parts.{Parts}
 use Rattle.image_core.specs.Numbers.{manifest_file}
-use Rattle.image_core.specs.View.{AreLayersOf}
 use Rattle.image_core.specs.Parts.{ImageStands}
 use Rattle.image_core.specs.Loading.{AreStackOrNone}
 use Rattle.image_core.specs.Opening.{lowers_from}
@@ -31,17 +28,17 @@ use Rattle.overlay_tool.specs.declared.refusal.Refusal.TheVariants as refused
 use Rattle.overlay_tool.specs.Reports.{created_line}
 use Rattle.overlay_tool.specs.Causes.{Ports}
 use Rattle.overlay_tool.specs.Flattening.{AreTold}
-use Rattle.overlay_tool.specs.Prints.{LayerSheet, AreLayers, heads_of, sectors_of}
-use Rattle.overlay_tool.specs.Images.{DiskPort, IsSizeFor, Opens, Does, Began, IsBegun}
+use Rattle.overlay_tool.specs.Prints.{sectors_of}
+use Rattle.overlay_tool.specs.Images.{DiskPort, IsSizeFor, Opens, Does, Began}
 use Rattle.overlay_tool.specs.ImageCauses.{Untouched, HasSize, HaveOtherSize, HaveOwnSize, ImageCause}
 use Rattle.overlay_tool.specs.ImageSteps.{ImagePort, Stands, disk_of, IsMade, IsOtherSize, SizeCause, MakeCause, LineCause, create_refused_as}
 use Rattle.overlay_tool.proofs.Pieces.{IfSome-at, IfSome-each, length_told}
 use Rattle.overlay_tool.proofs.ToldLayers.{layers_of, told_layers, told_heads}
 use Rattle.overlay_tool.proofs.ShelfCommands.{legal_first}
-use Rattle.overlay_tool.proofs.OpenLaws.{told-layers-of, stacked, lies-over}
+use Rattle.overlay_tool.proofs.OpenLaws.{stacked, lies-over}
 use Rattle.overlay_tool.proofs.WithoutReads.{shows-none}
 use Rattle.overlay_tool.proofs.ImageAdds.{adds-nothing}
-use Rattle.overlay_tool.proofs.ImageLaws.{leaves-acts, holds-of, size-is}
+use Rattle.overlay_tool.proofs.ImageLaws.{leaves-acts, holds-of}
 
 some-layer : (layers : List LayerIndex) (first : LayerIndex) → slice_get layers 0 ≡ Some first → 1 ≤ length layers
 some-layer [] first is = absurd (let e : None ≡ Some first = is in cc)

@@ -1,6 +1,6 @@
 -- An image that was opened or made over the layers of a shelf.
-use Rattle.std.proofs.Common.{◌≡◌, ℕ, ◌+◌, ◌<◌, ◌≤◌, Bool, IsTrue, List, [], ◌∷◌, ◌++◌, length, map, refl, sym, ap, ◌∙◌, subst, arith, All}
-use Rattle.std.specs.Prelude.{Option, Some, None, IfSome}
+use Rattle.std.proofs.Common.{◌≡◌, ℕ, ◌<◌, Bool, IsTrue, List, [], ◌∷◌, length, refl, sym, ap, ◌∙◌, subst, arith}
+use Rattle.std.specs.Prelude.{Option, IfSome}
 use Rattle.block_disk.specs.DiskState.{DiskState}
 use Rattle.flat_image.specs.declared.base.Base.{Base}
 use Rattle.flat_image.specs.Stacks.{Legal}
@@ -15,7 +15,7 @@ use Rattle.image_core.specs.Opening.{lowers_from}
 use Rattle.image_core.proofs.SheetsRead.{layers-length}
 use Rattle.overlay_tool.specs.Flattening.{AreTold}
 use Rattle.overlay_tool.specs.Images.{DiskPort, LiesOver}
-use Rattle.overlay_tool.specs.ImageCauses.{AreStackedFiles, HoldsNone}
+use Rattle.overlay_tool.specs.ImageCauses.{AreStackedFiles}
 use Rattle.overlay_tool.specs.ImageSteps.{IsOpened, OpenCause, load_refused_as}
 use Rattle.image_core.specs.Parts as parts
 use Rattle.overlay_tool.proofs.Pieces.{IfSome-at, IfSome-each, length_told}

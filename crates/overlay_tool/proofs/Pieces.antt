@@ -1,12 +1,12 @@
 -- The flat image piece by piece.
-use Rattle.std.proofs.Common.{◌≡◌, ℕ, zero, suc, ◌+◌, ◌*◌, ◌<◌, ◌≤◌, List, [], ◌∷◌, ◌++◌, length, take, drop, get_or, refl, sym, ap, ◌∙◌, subst, arith, All}
+use Rattle.std.proofs.Common.{◌≡◌, ℕ, zero, suc, ◌+◌, ◌*◌, ◌<◌, ◌≤◌, List, [], ◌∷◌, ◌++◌, length, take, drop, get_or, refl, sym, ap, ◌∙◌, subst, arith}
 use Rattle.std.specs.Prelude.{Option, Some, None, IfSome}
 use Rattle.std.specs.Io.KnownBytes.{Appends}
 use Rattle.std.proofs.KnownBytes.{Appends-trans}
 use Rattle.std.proofs.Math.Seq.{take-add}
 use Rattle.std.proofs.lemmas.List.{drop_all, drop_more, take_all, take-append-drop}
 use Rattle.byte_ports.specs.Ports.{AppendsFront}
-use Rattle.byte_ports.proofs.Chains.{AppendsFront-after, AppendsFront-more, AppendsFront-whole}
+use Rattle.byte_ports.proofs.Chains.{AppendsFront-after, AppendsFront-more}
 use Rattle.layer_shelf.specs.Shelves.{file_at}
 use Rattle.flat_image.specs.LayerFiles.{LayerOf}
 use Rattle.sealed_layer.specs.Layers.{LayerIndex}

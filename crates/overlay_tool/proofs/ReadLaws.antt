@@ -1,21 +1,17 @@
 -- The command that reads sectors of an image.
-use Rattle.std.proofs.Common.{◌≡◌, ℕ, ◌+◌, ◌-◌, ◌*◌, ◌<◌, ◌≤◌, Bool, IsTrue, List, [], ◌∷◌, ◌++◌, length, refl, sym, ap, ◌∙◌, subst, arith, inl, inr, append-nil, length-append}
-use Rattle.std.specs.Prelude.{Option, Some, None, IfSome, ◌⊎◌, Result, Ok, Err, OnOk, OnErr, IfErr}
-use Rattle.std.specs.Io.KnownBytes.{Appends, Keeps}
-use Rattle.byte_ports.specs.Ports.{AppendsFront}
+use Rattle.std.proofs.Common.{◌≡◌, ℕ, ◌+◌, ◌-◌, ◌*◌, ◌<◌, ◌≤◌, IsTrue, List, [], ◌++◌, length, refl, sym, ap, ◌∙◌, arith, inl, inr, length-append}
+use Rattle.std.specs.Prelude.{Result, OnOk, OnErr, IfErr}
 use Rattle.byte_ports.proofs.Chains.{AppendsFront-more}
-use Rattle.block_disk.specs.DiskState.{DiskState, Files, Leaves}
+use Rattle.block_disk.specs.DiskState.{Leaves}
 use Rattle.flat_image.specs.declared.base.Base.{Base}
-use Rattle.flat_image.specs.Entries.{StartsWith}
-use Rattle.flat_image.specs.History.{History, now, reply}
-use Rattle.overlay_tool.specs.declared.words.Command.{Command}
+use Rattle.flat_image.specs.History.{History, reply}
 use Rattle.overlay_tool.specs.declared.words.Command.TheVariants.{Read}
 use Rattle.overlay_tool.specs.declared.refusal.Refusal.{Refusal}
 use Rattle.overlay_tool.specs.declared.refusal.Refusal.TheVariants as refused
 use Rattle.overlay_tool.specs.Causes.{Ports}
 use Rattle.overlay_tool.specs.Images.{DiskPort, Opens, PrintsFront, Does, Began, IsBegun}
 use Rattle.overlay_tool.specs.ImageCauses.{ImageCause}
-use Rattle.overlay_tool.specs.ImageSteps.{ImagePort, Stands, disk_of, Adds, fault, AreSectors, WritesSectors, WritesFront, ReadCause}
+use Rattle.overlay_tool.specs.ImageSteps.{ImagePort, Stands, disk_of, Adds, fault, WritesSectors, WritesFront, ReadCause}
 use Rattle.overlay_tool.proofs.Answered.{ok-both, err-both}
 use Rattle.overlay_tool.proofs.Pieces.{IfSome-at, IfSome-each}
 use Rattle.overlay_tool.proofs.WithoutReads.{shows-none}

@@ -1,7 +1,6 @@
 -- What a run says, from what its command says.
-use Rattle.std.proofs.Common.{◌≡◌, ◌≢◌, ℕ, ◌<◌, Bool, true, false, List, [], ◌∷◌, ◌++◌, length, refl, sym, ap, ◌∙◌, subst, arith, inl, inr}
+use Rattle.std.proofs.Common.{◌≡◌, ◌≢◌, ℕ, List, [], length, refl, sym, ap, ◌∙◌, subst, inl, inr}
 use Rattle.std.specs.Prelude.{Option, Some, None, IfSome, ◌⊎◌, Result, Ok, Err, OnOk, IfErr}
-use Rattle.byte_ports.specs.Ports.{AppendsFront}
 use Rattle.byte_ports.proofs.Chains.{AppendsFront-none}
 use Rattle.block_disk.specs.Claims.{Quiet}
 use Rattle.flat_image.specs.declared.act.Act.{Act}
@@ -14,10 +13,10 @@ use Rattle.overlay_tool.specs.declared.refusal.Refusal.TheVariants as refused
 use Rattle.overlay_tool.specs.Reports.{wrote_line, zeroed_line}
 use Rattle.overlay_tool.specs.Texts.{code_of}
 use Rattle.overlay_tool.specs.Causes.{Ports, Cause, PrintsAll}
-use Rattle.overlay_tool.specs.Images.{DiskPort, IsPrinted, Began, act_of, acts_of}
+use Rattle.overlay_tool.specs.Images.{DiskPort, IsPrinted, act_of, acts_of}
 use Rattle.overlay_tool.specs.ImageCauses.{ImageCause}
 use Rattle.overlay_tool.specs.Runs.{IsOverLayers, Succeeds, Fails, WordsFail}
-use Rattle.overlay_tool.specs.Prints.{Prints, read_by}
+use Rattle.overlay_tool.specs.Prints.{read_by}
 use Rattle.overlay_tool.proofs.Refusals.{only_memory}
 use Rattle.overlay_tool.proofs.Pieces.{IfSome-each}
 use Rattle.overlay_tool.proofs.Tools.{code_two, memory_instead, IsComplete}

@@ -1,26 +1,25 @@
 -- The commands that change an image.
-use Rattle.std.proofs.Common.{◌≡◌, ℕ, ◌+◌, ◌*◌, ◌<◌, ◌≤◌, Bool, IsTrue, List, [], ◌∷◌, ◌++◌, length, refl, sym, ap, ◌∙◌, subst, arith, inl, inr}
-use Rattle.std.specs.Prelude.{Option, Some, None, IfSome, ◌⊎◌, Result, Ok, Err, OnOk, OnErr, IfErr}
-use Rattle.std.specs.Io.KnownBytes.{Appends, Keeps}
+use Rattle.std.proofs.Common.{◌≡◌, ℕ, ◌+◌, ◌<◌, ◌≤◌, IsTrue, List, [], ◌++◌, refl, sym, ap, ◌∙◌, subst, arith, inl, inr}
+use Rattle.std.specs.Prelude.{Option, Some, Result, Ok, Err, OnOk, OnErr, IfErr}
+use Rattle.std.specs.Io.KnownBytes.{Appends}
 use Rattle.std.proofs.KnownBytes.{Keeps-refl}
 use Rattle.byte_ports.specs.Ports.{AppendsFront}
 use Rattle.byte_ports.proofs.Chains.{AppendsFront-none}
-use Rattle.block_disk.specs.DiskState.{DiskState, Files, Leaves}
+use Rattle.block_disk.specs.DiskState.{Leaves}
 use Rattle.flat_image.specs.declared.act.Act.{Act}
 use Rattle.flat_image.specs.declared.base.Base.{Base}
 use Rattle.flat_image.specs.Entries.{StartsWith}
 use Rattle.flat_image.specs.History as history
 use Rattle.flat_image.specs.History.{History, kept, IsOver, rows_taken, sectors_taken}
 use Rattle.image_core.specs.Shows.{Shows}
-use Rattle.image_core.specs.Parts.{parts_view}
 use Rattle.overlay_tool.specs.declared.words.Command.{Command}
 use Rattle.overlay_tool.specs.declared.refusal.Refusal.{Refusal}
 use Rattle.overlay_tool.specs.declared.refusal.Refusal.TheVariants as refused
 use Rattle.overlay_tool.specs.Causes.{Ports}
-use Rattle.overlay_tool.specs.Images.{DiskPort, Opens, PrintsFront, IsPrinted, Does, Began, IsBegun, act_of, kept_act, acts_of, reach_of}
+use Rattle.overlay_tool.specs.Images.{DiskPort, Opens, IsPrinted, Does, Began, IsBegun, act_of, kept_act, acts_of, reach_of}
 use Rattle.overlay_tool.specs.ImageCauses.{ImageCause}
 use Rattle.overlay_tool.specs.ImageSteps.{ImagePort, Stands, disk_of, Adds, fault, ChangeCause, TellCause}
-use Rattle.overlay_tool.proofs.Answered.{ok-both, err-both}
+use Rattle.overlay_tool.proofs.Answered.{ok-both}
 use Rattle.overlay_tool.proofs.WithoutReads.{IsChange, shows-kept}
 use Rattle.overlay_tool.proofs.ImageLaws.{leaves-acts, holds-of, rows-are, filled-is}
 

@@ -1,12 +1,12 @@
 -- Reads change nothing of an image, and leave nothing.
-use Rattle.std.proofs.Common.{◌≡◌, ℕ, ◌+◌, ◌≤◌, Bool, true, false, List, [], ◌∷◌, ◌++◌, length, take, drop, refl, sym, ap, ◌∙◌, subst, arith, inl, inr, append_assoc, append-nil}
-use Rattle.std.specs.Prelude.{fold, filter, All, Option, Some, None}
+use Rattle.std.proofs.Common.{◌≡◌, ℕ, Bool, false, List, [], ◌∷◌, ◌++◌, take, drop, refl, ap, ◌∙◌, subst, inl, inr}
+use Rattle.std.specs.Prelude.{fold, All, Some}
 use Rattle.std.proofs.lemmas.List.Elements.{All-nil, All-cons, All-head, All-tail, All-filter, filter-append}
 use Rattle.block_disk.specs.DiskState.{Files}
 use Rattle.flat_image.specs.declared.act.Act.{Act}
 use Rattle.flat_image.specs.declared.act.Act.TheVariants.{Read, Write, Zero, Flush, Freeze, Seal, Fault}
 use Rattle.flat_image.specs.declared.act.Asked.{Asked}
-use Rattle.flat_image.specs.declared.act.Asked.TheVariants.{Nothing, Uuid}
+use Rattle.flat_image.specs.declared.act.Asked.TheVariants.{Uuid}
 use Rattle.flat_image.specs.declared.base.Base.{Base}
 use Rattle.flat_image.specs.declared.stands.Entry.{Entry}
 use Rattle.flat_image.specs.Sheets.{bytes_of}

@@ -1,5 +1,5 @@
 -- Layers painted one after another over a part of an image.
-use Rattle.std.specs.Prelude.{◌≡◌, ℕ, ◌*◌, ◌<◌, ◌≤◌, List, [], ◌∷◌, replicate, Result, IsErrOf}
+use Rattle.std.specs.Prelude.{ℕ, ◌*◌, ◌<◌, ◌≤◌, List, [], ◌∷◌, replicate, Result, IsErrOf}
 use Rattle.std.specs.List.{AllZip}
 use Rattle.seg_mapping.specs.declared.Row.{Row}
 use Rattle.flat_image.specs.Sheets.{Cell, bytes_of, flat, image_in, paint}

@@ -1,6 +1,6 @@
 -- Why the image commands are refused, and what stands after it: each as the first in the order in which a command looks at
 -- the source, the shelf's layers, their stack, the size, the disk, the range and the room.
-use Rattle.std.specs.Prelude.{◌≡◌, ◌≢◌, ℕ, ◌+◌, ◌%◌, ◌<◌, ◌≤◌, ◌⊎◌, true, false, IsTrue, List, [], length, Option, Some, None, IfSome}
+use Rattle.std.specs.Prelude.{◌≡◌, ◌≢◌, ℕ, ◌+◌, ◌%◌, ◌<◌, ◌≤◌, ◌⊎◌, IsTrue, List, [], length, Option, Some, None, IfSome}
 use Rattle.std.specs.Io.KnownBytes.{Keeps}
 use Rattle.block_disk.specs.Claims.{Quiet}
 use Rattle.gate_mark.specs.MarkFile.{mark_of}
@@ -20,7 +20,7 @@ use Rattle.overlay_tool.specs.declared.refusal.Refusal.{Refusal}
 use Rattle.overlay_tool.specs.declared.refusal.Refusal.TheVariants as refused
 use Rattle.overlay_tool.specs.Prints.{LayerSheet, AreLayers, heads_of, sectors_of}
 use Rattle.overlay_tool.specs.Causes.{Ports, IsOfImage, StopsAt}
-use Rattle.overlay_tool.specs.Images.{DiskPort, Takes, act_of, reach_of, LiesOver, IsSizeFor, Opens, PrintsFront, LeavesOf, Began}
+use Rattle.overlay_tool.specs.Images.{DiskPort, Takes, act_of, reach_of, Opens, LeavesOf, Began}
 
 -- nothing was written, and the disk is as it was
 pub record Untouched (before now : Ports) (disk disk_now : DiskPort) : Type 0 where

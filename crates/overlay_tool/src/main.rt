@@ -19,8 +19,6 @@ mod refusal;
 mod reports;
 mod stacks;
 #[cfg(test)]
-mod image_tests;
-#[cfg(test)]
 mod tests;
 #[cfg(test)]
 mod text_tests;

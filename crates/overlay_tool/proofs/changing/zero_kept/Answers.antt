@@ -1,9 +1,8 @@
-use Rattle.std.proofs.Common.{◌≡◌, ℕ, ◌+◌, ◌*◌, ◌/◌, ◌<◌, ◌≤◌, List, [], ◌∷◌, length, refl, sym, ap, ◌∙◌, arith}
+use Rattle.std.proofs.Common.{◌+◌, ◌≤◌, [], ◌∷◌, refl, ap, arith}
 use Rattle.sector_extent.specs.Rows.{rows_for}
 use Rattle.flat_image.specs.declared.act.Act.{Act}
 use Rattle.flat_image.specs.declared.act.Act.TheVariants as act
 use Rattle.flat_image.specs.Entries.{entry}
-use Rattle.flat_image.specs.Sectors.{sector_count}
 use Rattle.image_core.specs.Parts.{parts_view}
 use Rattle.overlay_tool.proofs.ChangeLaws.{standing-then, steps-then, change-refused, change-kept, flush-refused}
 use Rattle.overlay_tool.proofs.changing.zero_kept.Goals as goal

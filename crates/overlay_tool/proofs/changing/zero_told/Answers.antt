@@ -1,12 +1,10 @@
-use Rattle.std.proofs.Common.{◌≡◌, ℕ, List, [], refl, sym, ap, ◌∙◌, subst, arith, inl, inr}
-use Rattle.std.specs.Prelude.{OnErr, OnOk}
-use Rattle.std.specs.Io.KnownBytes.{Appends}
+use Rattle.std.proofs.Common.{◌≡◌, ℕ, List, ◌∙◌, subst, inr}
+use Rattle.std.specs.Prelude.{OnErr}
 use Rattle.std.proofs.KnownBytes.{Keeps-refl}
 use Rattle.std.proofs.lemmas.Result.{err_from_is_err_and}
 use Rattle.byte_ports.specs.Ports.{AppendsFront}
-use Rattle.flat_image.specs.declared.act.Act.{Act}
 use Rattle.flat_image.specs.declared.act.Act.TheVariants as act
-use Rattle.overlay_tool.specs.Reports.{wrote_line, zeroed_line}
+use Rattle.overlay_tool.specs.Reports.{zeroed_line}
 use Rattle.overlay_tool.specs.ImageSteps.{ImagePort}
 use Rattle.overlay_tool.proofs.TellLaws.{tell-changed, tell-failed}
 use Rattle.overlay_tool.proofs.changing.zero_told.Goals as goal

@@ -1,4 +1,4 @@
-use Rattle.std.proofs.Common.{◌≡◌, ◌∙◌, List, map, ap}
+use Rattle.std.proofs.Common.{◌∙◌, List, map, ap}
 use Rattle.std.proofs.lemmas.Result.{on_ok_weaker}
 use Rattle.sealed_layer.specs.Layers.{LayerIndex}
 use Rattle.overlay_tool.specs.declared.words.Command.TheVariants.{Stack}

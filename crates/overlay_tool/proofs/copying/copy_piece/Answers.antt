@@ -1,14 +1,9 @@
-use Rattle.std.proofs.Common.{◌≡◌, ℕ, ◌*◌, IsTrue, List, [], length, ap, sym, refl, arith, ◌∙◌, subst, rules}
-use Rattle.std.specs.Prelude.{Err, Option, IfSome}
+use Rattle.std.proofs.Common.{arith, rules}
 use Rattle.std.proofs.KnownBytes.{Keeps-refl}
 use Rattle.flat_image.specs.declared.act.Act.TheVariants.{Read}
-use Rattle.flat_image.specs.declared.base.Base.{Base}
-use Rattle.flat_image.specs.History.{History, reply}
-use Rattle.image_core.specs.Parts.{ImageStands}
-use Rattle.overlay_tool.specs.ImageSteps.{ImagePort, AreSectors}
+use Rattle.overlay_tool.specs.ImageSteps.{ImagePort}
 use Rattle.overlay_tool.proofs.ImageAdds.{adds-read, none-written}
 use Rattle.overlay_tool.proofs.CopyLaws.{whole-refused, are-sectors}
-use Rattle.overlay_tool.proofs.Pieces.{IfSome-at, IfSome-each}
 use Rattle.overlay_tool.proofs.copying.copy_piece.Goals as goal
 
 pub returns-in-Err-clause-front : goal.returns-in-Err-clause-front

@@ -1,9 +1,6 @@
-use Rattle.std.proofs.Common.{◌≡◌, ℕ, ◌+◌, ◌-◌, ◌*◌, ◌≤◌, min, List, [], refl, sym, ap, ◌∙◌, subst, arith, rules}
-use Rattle.std.specs.Prelude.{Option}
+use Rattle.std.proofs.Common.{◌≡◌, ℕ, ◌+◌, ◌≤◌, [], refl, ◌∙◌, subst, arith, rules}
 use Rattle.std.proofs.lemmas.Result.{err_from_is_err_and}
 use Rattle.std.proofs.KnownBytes.{Keeps-refl, Appends-nil}
-use Rattle.image_core.specs.View.{AreLayersOf}
-use Rattle.sealed_layer.specs.Layers.{LayerIndex}
 use Rattle.overlay_tool.specs.ImageSteps.{ImagePort, WritesSectors}
 use Rattle.overlay_tool.proofs.ImageAdds.{adds-nothing, adds-joined, standing-after, none-written, no-sectors}
 use Rattle.overlay_tool.proofs.CopyLaws.{writes-joined, front-joined, cause-after}

@@ -1,4 +1,4 @@
-use Rattle.std.proofs.Common.{◌≡◌, ℕ, ◌+◌, ◌-◌, ◌*◌, ◌≤◌, min, [], length, vec_len}
+use Rattle.std.proofs.Common.{◌≡◌, ◌+◌, ◌-◌, ◌*◌, ◌≤◌, min, [], vec_len}
 use Rattle.image_core.specs.Parts.{parts_view, IsStanding}
 use Rattle.overlay_tool.specs.ImageSteps.{Adds, WritesSectors}
 use Rattle.overlay_tool.proofs.copying.copy_sectors.Given as goal

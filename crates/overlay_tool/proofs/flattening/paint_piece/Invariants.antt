@@ -1,4 +1,4 @@
-use Rattle.std.proofs.Common.{◌≡◌, ℕ, ◌*◌, ◌≤◌, length, drop, IfSome}
+use Rattle.std.proofs.Common.{◌≡◌, ◌*◌, ◌≤◌, length, drop, IfSome}
 use Rattle.overlay_tool.specs.Flattening.{overlaid, flat_part}
 use Rattle.overlay_tool.proofs.flattening.paint_piece.Given as goal
 

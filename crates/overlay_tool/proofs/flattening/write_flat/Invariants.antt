@@ -1,4 +1,4 @@
-use Rattle.std.proofs.Common.{◌≡◌, ℕ, ◌+◌, ◌-◌, ◌*◌, ◌≤◌, min, take, vec_len, IfSome}
+use Rattle.std.proofs.Common.{◌≡◌, ◌-◌, ◌*◌, ◌≤◌, min, take, vec_len, IfSome}
 use Rattle.std.specs.Io.KnownBytes.{Appends}
 use Rattle.overlay_tool.specs.Flattening.{told_flat}
 use Rattle.overlay_tool.proofs.flattening.write_flat.Given as goal

@@ -1,5 +1,5 @@
-use Rattle.std.proofs.Common.{◌≡◌, ℕ, ◌≤◌, IsTrue, List, [], refl, sym, ap, ◌∙◌, subst, arith}
-use Rattle.std.specs.Prelude.{Option, OnOk, IfErr}
+use Rattle.std.proofs.Common.{◌≡◌, ℕ, [], refl, ◌∙◌, subst, arith}
+use Rattle.std.specs.Prelude.{OnOk, IfErr}
 use Rattle.std.specs.Io.KnownBytes.{Appends}
 use Rattle.overlay_tool.specs.declared.words.Command.TheVariants.{Create}
 use Rattle.overlay_tool.specs.Reports.{created_line}

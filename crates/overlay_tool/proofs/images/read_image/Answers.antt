@@ -1,14 +1,9 @@
-use Rattle.std.proofs.Common.{◌≡◌, ℕ, ◌+◌, ◌≤◌, IsTrue, List, [], refl, sym, ap, ◌∙◌, subst, arith}
-use Rattle.std.specs.Prelude.{Option, OnOk, OnErr, IfErr}
-use Rattle.block_disk.specs.DiskState.{Leaves}
-use Rattle.flat_image.specs.declared.base.Base.{Base}
+use Rattle.std.proofs.Common.{◌≡◌, ℕ, ◌+◌, ◌≤◌, List, [], refl, ◌∙◌, subst, arith}
+use Rattle.std.specs.Prelude.{Option, OnOk, OnErr}
 use Rattle.overlay_tool.specs.declared.words.Command.TheVariants.{Read}
-use Rattle.overlay_tool.specs.declared.refusal.Refusal.{Refusal}
 use Rattle.overlay_tool.specs.Causes.{Ports}
-use Rattle.overlay_tool.specs.Images.{DiskPort, Opens, Does}
-use Rattle.overlay_tool.specs.ImageCauses.{ImageCause}
-use Rattle.overlay_tool.specs.ImageSteps.{ImagePort, Stands, disk_of, Adds, WritesSectors, WritesFront, ReadCause}
-use Rattle.overlay_tool.proofs.Answered.{ok-both, err-both}
+use Rattle.overlay_tool.specs.Images.{DiskPort, Opens}
+use Rattle.overlay_tool.specs.ImageSteps.{ImagePort, WritesSectors, WritesFront}
 use Rattle.overlay_tool.proofs.ImageLaws.{lowers-count, size-is}
 use Rattle.overlay_tool.proofs.ReadLaws.{read-done, read-failed}
 use Rattle.overlay_tool.proofs.images.read_image.Goals as goal

@@ -1,15 +1,11 @@
-use Rattle.std.proofs.Common.{◌≡◌, ℕ, ◌+◌, ◌*◌, ◌/◌, ◌<◌, ◌≤◌, IsTrue, List, [], length, refl, sym, ap, ◌∙◌, subst, arith}
-use Rattle.std.specs.Prelude.{Option, Some, OnOk, OnErr, IfErr}
+use Rattle.std.proofs.Common.{◌≡◌, ℕ, ◌+◌, ◌<◌, ◌≤◌, refl, subst, arith}
+use Rattle.std.specs.Prelude.{Some, OnOk, IfErr}
 use Rattle.std.specs.Io.KnownBytes.{Appends}
 use Rattle.std.proofs.KnownBytes.{Keeps-refl}
-use Rattle.block_disk.specs.DiskState.{Leaves}
-use Rattle.flat_image.specs.declared.act.Act.{Act}
 use Rattle.flat_image.specs.declared.act.Act.TheVariants as act
-use Rattle.flat_image.specs.declared.base.Base.{Base}
 use Rattle.flat_image.specs.Sectors.{sector_count}
-use Rattle.overlay_tool.specs.declared.words.Command.{Command}
-use Rattle.overlay_tool.specs.declared.words.Command.TheVariants.{Write, Zero}
-use Rattle.overlay_tool.specs.Reports.{wrote_line, zeroed_line}
+use Rattle.overlay_tool.specs.declared.words.Command.TheVariants.{Write}
+use Rattle.overlay_tool.specs.Reports.{wrote_line}
 use Rattle.overlay_tool.specs.Causes.{Ports}
 use Rattle.overlay_tool.specs.Images.{DiskPort, Opens, kept_act}
 use Rattle.overlay_tool.specs.ImageSteps.{ImagePort, Adds, TellCause}

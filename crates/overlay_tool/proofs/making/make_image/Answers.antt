@@ -2,10 +2,8 @@ use Rattle.std.proofs.Common.{◌≡◌, ℕ, List, length, sym, ap, ◌∙◌, 
 use Rattle.std.specs.Prelude.{IfSome}
 use Rattle.sealed_layer.specs.Layers.{LayerIndex}
 use Rattle.image_core.specs.View.{AreLayersOf}
-use Rattle.image_core.specs.Loading.{AreStackOrNone}
 use Rattle.image_core.specs.Creating.{AreLegal}
 use Rattle.top_writer.proofs.QuietLaws.{quiet_none}
-use Rattle.overlay_tool.specs.declared.refusal.Refusal.{Refusal}
 use Rattle.overlay_tool.specs.Images.{DiskPort, IsSizeFor}
 use Rattle.overlay_tool.specs.ImageSteps.{SizeCause}
 use Rattle.overlay_tool.proofs.OpenLaws.{told-layers-of}

@@ -1,8 +1,8 @@
-use Rattle.std.proofs.Common.{◌≡◌, ℕ, List, length, sym, ap, ◌∙◌, subst}
+use Rattle.std.proofs.Common.{◌≡◌, List, sym, ◌∙◌, subst}
 use Rattle.std.specs.Prelude.{IfSome}
 use Rattle.sealed_layer.specs.Layers.{LayerIndex}
 use Rattle.image_core.specs.View.{AreLayersOf}
-use Rattle.image_core.specs.Loading.{AreStackOrNone, IsLoadReason}
+use Rattle.image_core.specs.Loading.{IsLoadReason}
 use Rattle.overlay_tool.specs.Images.{DiskPort}
 use Rattle.overlay_tool.proofs.OpenLaws.{told-layers-of, opened, load-refused}
 use Rattle.overlay_tool.proofs.opening.open_image.Goals as goal

@@ -1,4 +1,4 @@
-use Rattle.std.proofs.Common.{◌≡◌, ℕ, ◌≤◌, length, take, IfSome}
+use Rattle.std.proofs.Common.{◌≡◌, ◌≤◌, length, take, IfSome}
 use Rattle.overlay_tool.specs.Flattening.{AreTold}
 use Rattle.overlay_tool.proofs.stacks.read_layers.Given as goal
 
