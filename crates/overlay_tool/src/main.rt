@@ -7,6 +7,8 @@ mod commands;
 mod copying;
 mod flat_fault;
 mod flattening;
+#[cfg(test)]
+mod image_tests;
 mod image_texts;
 mod images;
 mod input;
