@@ -7,6 +7,7 @@ use crate::{Image, LayerList, LoadFault, Numbered, Reply, ReplyList, Step, StepL
 use block_disk::{CrashChoice, Disk, MemDisk};
 use sector_extent::{Bytes, CallList, Extent};
 use std::alloc::Global;
+use std::process::Abort;
 use std::test::Fail;
 
 const CHOICES: [CrashChoice; 3] = [CrashChoice::Old, CrashChoice::New, CrashChoice::Torn];
@@ -194,32 +195,21 @@ fn is_whole(replies: &[Reply]) -> bool {
     (0..4).all(|number| is_done(replies, number))
 }
 
-#[test]
-fn changes_that_fail_once_leave_a_beginning(rt: HostRuntime) -> Result<(), Fail> {
-    let alloc = rt.alloc();
-    for call in 0..MOST {
-        for choice in CHOICES {
-            let changed = make_changed(alloc, failing(alloc, call)?)?;
-            let whole = is_whole(changed.replies.as_slice());
-            assert!(rt;
-                crash_fits(alloc, changed, choice)?,
-                "call {call}, {choice:?}"
-            );
-            if whole && choice == CrashChoice::Torn {
-                assert!(rt; call > 30);
-                return Ok(());
-            }
-        }
+// A new disk that fails in the call of that number, or from it on.
+fn faulty(alloc: Global, call: u64, stops: bool) -> Result<MemDisk, Fail> {
+    if stops {
+        Ok(stopping(alloc, call))
+    } else {
+        failing(alloc, call)
     }
-    Err(Fail::from("no run went through"))
 }
 
-#[test]
-fn changes_that_stop_leave_a_beginning(rt: HostRuntime) -> Result<(), Fail> {
-    let alloc = rt.alloc();
+// Whatever call fails, or is the last one, and however the disk crashes then, the image that is opened
+// has a beginning of what was done.
+fn changes_leave_a_beginning(rt: &impl Abort, alloc: Global, stops: bool) -> Result<(), Fail> {
     for call in 0..MOST {
         for choice in CHOICES {
-            let changed = make_changed(alloc, stopping(alloc, call))?;
+            let changed = make_changed(alloc, faulty(alloc, call, stops)?)?;
             let whole = is_whole(changed.replies.as_slice());
             assert!(rt;
                 crash_fits(alloc, changed, choice)?,
@@ -288,9 +278,8 @@ fn loads_after_a_crash(alloc: Global, call: u64, choice: CrashChoice) -> Result<
     }
 }
 
-#[test]
-fn loads_that_fail_once_are_made_again(rt: HostRuntime) -> Result<(), Fail> {
-    let alloc = rt.alloc();
+// Whatever call of a load fails, or is the last one, the next load finds all that was flushed.
+fn loads_are_made_again(rt: &impl Abort, alloc: Global) -> Result<(), Fail> {
     for call in 0..MOST {
         let mut within = loads_again(alloc, call)?;
         for choice in CHOICES {
@@ -302,4 +291,12 @@ fn loads_that_fail_once_are_made_again(rt: HostRuntime) -> Result<(), Fail> {
         }
     }
     Err(Fail::from("no load went through"))
+}
+
+#[test]
+fn each_call_of_the_disk_fails_once_and_is_the_last_one_once(rt: HostRuntime) -> Result<(), Fail> {
+    let alloc = rt.alloc();
+    changes_leave_a_beginning(&rt, alloc, false)?;
+    changes_leave_a_beginning(&rt, alloc, true)?;
+    loads_are_made_again(&rt, alloc)
 }
