@@ -173,7 +173,7 @@ loaded_view epoch n mark segments count filled waiting = record
 pub record IsLoad (tells : Bool) (now : DiskState) (n : ℕ) (parent : Option (List ℕ)) (t : Stored) (v : TopView) : Type 0 where
   pub stand : Stand
   pub fits : ViewFits tells now n parent v stand (stand ∷ [])
-  pub shows : IsTrue tells → ShowsTop n parent stand t
+  pub shows : IsTrue tells → (shown : ShowsTop n parent stand t) × (shown.sequence ≤ 2 ^ 61)
   pub blank : ¬ IsTrue tells → stand.cells ≡ blank_sheet n v.segments
 
 pub load_is : (tells : Bool) (now : DiskState) (epoch n : ℕ) (parent : Option (List ℕ)) (t : Stored) (mark : Mark) (segments : List Segment) (count filled : ℕ) (waiting : List ℕ)
@@ -242,20 +242,22 @@ load_is tells now epoch n parent t mark segments count filled waiting low empty 
       shows = λ told.
           let is = found.told told in
           let whole = is.whole in
-          let heads : HasParent n parent t = whole.counts.mark.heads in
-          record {
-            sequence = sequence_in mark;
-            body = body_in mark;
-            rows = rows;
-            heads = record { bytes_head = heads.0.0.0.1; index_head = heads.0.0.1; bytes_size = heads.0.1; index_size = heads.0.2; parent_is = heads.1 };
-            mark = is.shows;
-            counts = found.counts;
-            index_long = whole.index_long;
-            bytes_long = whole.bytes_long;
-            number = loaded.number;
-            spelled = loaded.spelled told;
-            sound = loaded.sound;
-            cells = sym (sheet_front n filled rows file t.bytes loaded.sound (front told));
-          };
+          let heads : HasParent n parent t = whole.counts.mark.heads in (
+            record {
+              sequence = sequence_in mark;
+              body = body_in mark;
+              rows = rows;
+              heads = record { bytes_head = heads.0.0.0.1; index_head = heads.0.0.1; bytes_size = heads.0.1; index_size = heads.0.2; parent_is = heads.1 };
+              mark = is.shows;
+              counts = found.counts;
+              index_long = whole.index_long;
+              bytes_long = whole.bytes_long;
+              number = loaded.number;
+              spelled = loaded.spelled told;
+              sound = loaded.sound;
+              cells = sym (sheet_front n filled rows file t.bytes loaded.sound (front told));
+            },
+            found.low,
+          );
       blank = blank-data_of tells n filled found.block t.bytes rows segments found.block_long table;
     }

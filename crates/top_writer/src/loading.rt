@@ -54,10 +54,10 @@ impl Top {
     ) -> Result<Top, TopFault>
         requires epoch { epoch ≤ 255 }
         requires size { IsSize sectors }
-        // the top that the files show, and what a crash may leave is just that; where the disk does not
-        // tell, what was read of them, with zeros as data
+        // the top that the files show, by a mark whose sequence is at most 2^61, and what a crash may leave is
+        // just that; where the disk does not tell, what was read of them, with zeros as data
         ensures shows { IfOk result (λ top. (s : Stand) × TopFits D.tells (D.state disk.new) sectors parent top s (s ∷ [])
-            × (IsTrue D.tells → ShowsTop sectors parent s (stored_in epoch (D.state disk.old).seen))
+            × (IsTrue D.tells → (shown : ShowsTop sectors parent s (stored_in epoch (D.state disk.old).seen)) × (shown.sequence ≤ 2 ^ 61))
             × (¬ IsTrue D.tells → s.cells ≡ blank_sheet sectors (table_of top).segments)) }
         ensures is { IfOk result (λ top. (epoch_of top ≡ epoch) × (sectors_of top ≡ sectors) × (sequence_of top ≤ 2 ^ 61)) }
         ensures reason { (reason : TopReason) → result ≡ Err (NoTop reason) → IsTrue D.tells → IsReason sectors parent (stored_in epoch (D.state disk.old).seen) reason }

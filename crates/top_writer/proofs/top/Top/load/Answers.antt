@@ -82,4 +82,4 @@ returns-clause-complete g c = λ s shows low told.
     let found = c.in_ok-found.found in
     subst (λ (u : Stand). ViewFits g.D.Disk.tells (state c.read_table.new.disk) c.args.sectors c.args.parent
     (loaded_view c.args.epoch c.args.sectors found.mark c.in_ok-table.table.segments found.rows found.filled c.new.result.items) u (u ∷ []))
-    (one_stand c.args.sectors c.args.parent one.0 s t (one.2 told) shows) one.1
+    (one_stand c.args.sectors c.args.parent one.0 s t (one.2 told).0 shows) one.1
