@@ -34,5 +34,8 @@ opened tells old new faults told layers p same loaded = record {
     told = loaded.shows;
     untold = λ no. loaded.untold no ∙ ap (λ l. blank_base (lowers_from told l) (parts_view p) faults) (sym same);
   };
+  unworn = loaded.unworn;
+  none_done = loaded.none_done;
+  none_frozen = loaded.none_frozen;
   stands = loaded.stands;
 }

@@ -21,7 +21,7 @@ use Rattle.flat_image.proofs.LayerLaws.{length-range, all_cells}
 use Rattle.flat_image.proofs.RowStretches.{rows-make_few}
 use Rattle.top_writer.specs.declared.fault.TopReason.{TopReason}
 use Rattle.top_writer.specs.Blank.{blank_sheet}
-use Rattle.top_writer.specs.Files.{stored_in}
+use Rattle.top_writer.specs.Files.{Stored, stored_in}
 use Rattle.top_writer.specs.Fitting.{TopFits, ViewFits}
 use Rattle.top_writer.specs.Reasons.{IsReason}
 use Rattle.top_writer.specs.Rows.{IsTopRow}
@@ -113,6 +113,10 @@ module _ (tells : Bool) (disk : DiskState) (n : ℕ) (parent : Option (List ℕ)
       subst (λ (cells : List Cell). length (stretches 0 cells) ≤ 2 * s.rows) (sym holds.cells)
       (omega (arith, rows-make_few fits.file n (reverse fits.rows), length-reverse fits.rows, holds.number, holds.rows_are))
 
+-- the files show the top, and the sequence of its mark is at most 2^61
+abbrev pub IsShown : ℕ → Option (List ℕ) → Stand → Stored → Type 0
+IsShown n parent s stored = (shown : ShowsTop n parent s stored) × (shown.sequence ≤ 2 ^ 61)
+
 -- the parts that a load has found
 pub loaded : (tells : Bool) (old mid new : DiskState) (faults : ℕ) (p : Parts) (n : ℕ) (files : List (List ℕ)) (layers slice : List LayerIndex) (parent body : List ℕ) (s : Stand)
     → AreLayersOf files layers → length layers ≤ 255 → HaveSize n layers → AreStackOrNone layers → slice ≡ layers → p.lowers ≡ layers → p.steps ≡ 0
@@ -121,7 +125,7 @@ pub loaded : (tells : Bool) (old mid new : DiskState) (faults : ℕ) (p : Parts)
     → Quiet old mid → Quiet mid new → file_of p.manifest ≡ manifest_file → sequence_in p.manifest ≤ 2 ^ 61 → IsKept mid p.manifest → ((b : List ℕ) → MayHold p.manifest b → b ≡ body)
     → (IsTrue tells → HasManifest old.seen body) → IsBareBody body → n ≡ size_said body
     → (¬ IsTrue tells → s.cells ≡ blank_sheet n (table_of p.top).segments)
-    → TopFits tells new n (Some parent) p.top s (s ∷ []) → (IsTrue tells → ShowsTop n (Some parent) s (stored_in 0 mid.seen)) → epoch_of p.top ≡ 0 → sequence_of p.top ≤ 2 ^ 61
+    → TopFits tells new n (Some parent) p.top s (s ∷ []) → (IsTrue tells → IsShown n (Some parent) s (stored_in 0 mid.seen)) → epoch_of p.top ≡ 0 → sequence_of p.top ≤ 2 ^ 61
     → IsLoaded tells old new faults files p
 loaded tells old mid new faults p n files layers slice parent body s are few sizes stack same lowers steps snapshot none some first second file unworn kept bodies manifest bare size blank top shows epoch low =
     let length_is : length slice ≡ length layers = ap (length {A = LayerIndex}) same in
@@ -135,6 +139,9 @@ loaded tells old mid new faults p n files layers slice parent body s are few siz
     let b : Base = record { sectors = n; lowers = files; done = []; frozen = None; top = s.cells; rows = s.rows; filled = s.filled; faults = faults } in
     let b_sound : IsSound b = record { size = sound.size; few = sound.few; stack = sound.stack; unlike = tt } in
     let names : Names body 0 None n = record { count = bare.count; epoch = bare.epoch; uuid = bare.uuid; named = tt; size = sym size } in
+    let shown : IsTrue tells → IsShown n (Some (top_uuid files)) s (stored_in 0 old.seen) = λ told.
+    subst (λ (u : List ℕ). IsShown n (Some u) s (stored_in 0 old.seen)) uppermost
+    (subst (IsShown n (Some parent) s) (stored-same 0 mid.seen old.seen (λ f of_top. sym (first.others.seen f (λ none. none)))) (shows told)) in
     record {
       base = b;
       lowers_are = refl;
@@ -148,9 +155,11 @@ loaded tells old mid new faults p n files layers slice parent body s are few siz
             sound = b_sound;
             done = λ k below. absurd (omega (arith, below));
             frozen = tt;
-            top = subst (λ (u : List ℕ). ShowsTop n (Some u) s (stored_in 0 old.seen)) uppermost
-                (subst (ShowsTop n (Some parent) s) (stored-same 0 mid.seen old.seen (λ f of_top. sym (first.others.seen f (λ none. none)))) (shows told));
+            top = (shown told).0;
           };
+      unworn = λ told. record { manifest = (manifest told).low; frozen = tt; top = (shown told).1 };
+      none_done = refl;
+      none_frozen = refl;
       untold = λ no.
           let holds = top.holds in
           let cells : s.cells ≡ blank_sheet (sectors_of p.top) (table_of p.top).segments = blank no ∙ ap (λ m. blank_sheet m (table_of p.top).segments) (sym holds.sectors) in

@@ -22,6 +22,7 @@ use Rattle.image_core.specs.declared.parts.Parts.{Parts}
 use Rattle.image_core.specs.Numbers.{manifest_file}
 use Rattle.image_core.specs.Manifest.{Names}
 use Rattle.image_core.specs.Shows as shows
+use Rattle.image_core.specs.Shows.{IsUnworn}
 use Rattle.image_core.specs.View.{ImageView, AreLayersOf}
 use Rattle.image_core.specs.Pieces.{IsSnapshotOf}
 use Rattle.image_core.specs.Opening.{blank_base, StartsFrom}
@@ -104,18 +105,26 @@ noted_read act (Ok value) = Some act
 noted_read act (Err reads.Memory) = None
 noted_read act (Err reads.Failed) = Some (Fault Nothing)
 
--- An image that was opened on a disk, over these lower files: it stands for nothing done over a base that the disk's files
--- show, where it tells; where it does not, over what was read of it, with zeros as data.
+-- An image that was opened on a disk, over these lower files: it stands for nothing done over a base without commits that
+-- the disk's files show, with no sequence over 2^61, where it tells; where it does not, over what was read of it, with
+-- zeros as data.
 pub record IsLoaded (tells : Bool) (old new : DiskState) (faults : ℕ) (files : List (List ℕ)) (p : Parts) : Type 0 where
   pub base : Base
   pub lowers_are : base.lowers ≡ files
   pub faults_are : base.faults ≡ faults
   pub shows : IsTrue tells → shows.Shows old.seen base
+  pub unworn : (told : IsTrue tells) → IsUnworn old.seen base (shows told)
+  pub none_done : base.done ≡ []
+  pub none_frozen : base.frozen ≡ None
   pub untold : ¬ IsTrue tells → base ≡ blank_base files (parts_view p) faults
   pub stands : ImageStands tells new faults p base []
 
--- The same over lower layers whose files are told or not: it stands for nothing done over a base from which it starts.
+-- The same over lower layers whose files are told or not: it stands for nothing done over a base without commits from which
+-- it starts, and no sequence that the files show is over 2^61.
 pub record IsOpened (tells : Bool) (old new : DiskState) (faults : ℕ) (told : Option (List (List ℕ))) (p : Parts) : Type 0 where
   pub base : Base
   pub starts : StartsFrom tells old.seen faults told (parts_view p) base
+  pub unworn : (told : IsTrue tells) → IsUnworn old.seen base (starts.told told)
+  pub none_done : base.done ≡ []
+  pub none_frozen : base.frozen ≡ None
   pub stands : ImageStands tells new faults p base []

@@ -96,6 +96,7 @@ impl<D: Disk> Image<D> {
     /// nothing.
     pub fn load(alloc: Global, disk: D, lowers: LayerList) -> Result<Image<D>, (D, LoadFault)>
         requires few { length lowers ≤ 255 }
+        // only files without commits are opened, and none with a sequence over 2^61
         ensures stands { IfOk result (λ image. (files : List (List ℕ)) → AreLayersOf files lowers
             → IsLoaded D.tells (D.state disk) (D.state image.disk) (D.faults image.disk) files image.parts) }
         // and so where no files are told
