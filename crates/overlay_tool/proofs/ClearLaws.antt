@@ -63,7 +63,7 @@ module _ (command : Command) (files : List (List ℕ)) (disk : DiskPort) (bytes 
 same-bytes : (left : Option (List ℕ)) (bytes other : List ℕ) → left ≡ Some bytes → IfSome left (λ all. other ≡ all) → other ≡ bytes
 same-bytes left bytes other e told = IfSome-at left (λ all. other ≡ all) bytes e told
 
-past-clear : (command : Command) (before now : Ports) (disk disk_now : DiskPort) → IsClear command before now disk disk_now → GoesPast command before disk → ⊥
+past-clear : (command : Command) (before now : Ports) (disk disk_now : DiskPort) → IsClear command before now disk disk_now → GoesPast command before disk disk_now → ⊥
 past-clear (Create asked) before now disk disk_now clear past = let p = past.past in omega (arith, p)
 past-clear (Read at count) before now disk disk_now clear past =
     not-past (Read at count) clear.files disk [] clear.ready before.files before.count clear.told clear.tells past.base past.opens.over past.opens.starts past.past

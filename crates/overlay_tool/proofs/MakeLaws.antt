@@ -29,8 +29,8 @@ use Rattle.overlay_tool.specs.Reports.{created_line}
 use Rattle.overlay_tool.specs.Causes.{Ports}
 use Rattle.overlay_tool.specs.Flattening.{AreTold}
 use Rattle.overlay_tool.specs.Prints.{sectors_of}
-use Rattle.overlay_tool.specs.Images.{DiskPort, IsSizeFor, Opens, Does, Began}
-use Rattle.overlay_tool.specs.ImageCauses.{Untouched, HasSize, HaveOtherSize, HaveOwnSize, ImageCause}
+use Rattle.overlay_tool.specs.Images.{DiskPort, AreStackedFiles, IsSizeFor, Opens, Does, Began}
+use Rattle.overlay_tool.specs.ImageCauses.{Untouched, HasSize, ReachesDisk, HaveOtherSize, HaveOwnSize, ImageCause}
 use Rattle.overlay_tool.specs.ImageSteps.{ImagePort, Stands, disk_of, IsMade, IsOtherSize, SizeCause, MakeCause, LineCause, create_refused_as}
 use Rattle.overlay_tool.proofs.Pieces.{IfSome-at, IfSome-each, length_told}
 use Rattle.overlay_tool.proofs.ToldLayers.{layers_of, told_layers, told_heads}
@@ -112,16 +112,16 @@ make-refused asked told count n shelf shelf_now disk disk_now layers are legal s
     (has-size asked told count n layers are legal size, stacked told layers are legal.legal, λ tells. exists tells refl, untouched refl)
 make-refused asked told count n shelf shelf_now disk disk_now layers are legal size create.Memory exists failed untouched unbegun kept = unbegun refl
 make-refused asked told count n shelf shelf_now disk disk_now layers are legal size create.Failed exists failed untouched unbegun kept =
-    (failed refl, stays disk.tells (mark_of (disk.state.seen manifest_file)) (Quiet disk.state disk_now.state) kept)
+    (failed refl, has-size asked told count n layers are legal size, stacked told layers are legal.legal, stays disk.tells (mark_of (disk.state.seen manifest_file)) (Quiet disk.state disk_now.state) kept)
 
 -- and one that was made
-pub made : (asked : Option ℕ) (told : Option (List (List ℕ))) (count n : ℕ) (layers : List LayerIndex) (tells : Bool) (s s' : DiskState) (f f' : ℕ) (p : Parts) → length layers ≡ count → p.lowers ≡ layers
+pub made : (asked : Option ℕ) (told : Option (List (List ℕ))) (count n : ℕ) (layers : List LayerIndex) (tells : Bool) (s s' : DiskState) (f f' : ℕ) (p : Parts) → AreStackedFiles told → length layers ≡ count → p.lowers ≡ layers
     → IsSizeFor asked count n → (IsTrue tells → mark_of (s.seen manifest_file) ≡ None) → ImageStands tells s' f' p (fresh_at n (lowers_from told layers) f') []
     → IsMade asked told count (record { tells = tells; state = s; faults = f }) (record { tells = tells; state = s'; faults = f'; parts = p })
-made asked told count n layers tells s s' f f' p long same size none stands =
+made asked told count n layers tells s s' f f' p are long same size none stands =
     let base : Base = fresh_at n (lowers_from told layers) f' in (
       base,
-      lies-over told count layers tells s' f' p base long same refl stands,
+      lies-over told count layers tells s' f' p base are long same refl stands,
       record { size = size; none = none; fresh = refl },
       stands,
     )
@@ -180,15 +180,22 @@ module _ (asked : Option ℕ) (before now : Ports) (disk : DiskPort) (new : Imag
   create-failed (Ok value) sink later cause = tt
   create-failed (Err refusal) sink later cause = create-refused sink later refusal cause
 
+reaches : (asked : Option ℕ) (before : Ports) → HasSize asked before.files before.count → AreStackedFiles before.files → ReachesDisk (Create asked) before
+reaches asked before size are = record {
+  fed = ([], refl);
+  stacked = are;
+  size = λ other is. subst (λ (o : Option ℕ). HasSize o before.files before.count) (let e : asked ≡ other = cc in e) size;
+}
+
 -- no image was made
 pub make-failed : (asked : Option ℕ) (before now : Ports) (disk disk_now : DiskPort) → now.written ≡ before.written → (refusal : Refusal)
     → MakeCause asked before.files before.count before.shelf_faults now.shelf_faults disk disk_now refusal → ImageCause (Create asked) before now disk disk_now refusal
 make-failed asked before now disk disk_now same refused.Memory cause = inl (untouched before now disk disk_now same cause)
-make-failed asked before now disk disk_now same refused.DiskFault (rose, stands) = elim stands [
-  | inl quiet ↦ (rose, inl (untouched before now disk disk_now same quiet))
-  | inr none ↦ (rose, inr (inl ((asked, refl), none, keeps before.written now.written same)))
+make-failed asked before now disk disk_now same refused.DiskFault (rose, size, are, stands) = elim stands [
+  | inl quiet ↦ (rose, reaches asked before size are, inl (untouched before now disk disk_now same quiet))
+  | inr none ↦ (rose, reaches asked before size are, inr (inl ((asked, refl), none, keeps before.written now.written same)))
 ]
-make-failed asked before now disk disk_now same refused.ShelfFault cause = (cause.0, inl (untouched before now disk disk_now same cause.1))
+make-failed asked before now disk disk_now same refused.ShelfFault cause = (cause.0, ([], refl), inl (untouched before now disk disk_now same cause.1))
 make-failed asked before now disk disk_now same (refused.Layer number reason) cause = (([], refl), cause.0, untouched before now disk disk_now same cause.1)
 make-failed asked before now disk disk_now same (refused.Stack reason) cause = (([], refl), cause.0, cause.1, untouched before now disk disk_now same cause.2)
 make-failed asked before now disk disk_now same refused.NoSize cause =

@@ -1,5 +1,5 @@
 -- An image that was opened or made over the layers of a shelf.
-use Rattle.std.proofs.Common.{◌≡◌, ℕ, ◌<◌, Bool, IsTrue, List, [], ◌∷◌, length, refl, sym, ap, ◌∙◌, subst, arith}
+use Rattle.std.proofs.Common.{◌≡◌, ℕ, ◌<◌, Bool, IsTrue, List, [], ◌∷◌, length, refl, sym, ap, ◌∙◌, subst, arith, inl}
 use Rattle.std.specs.Prelude.{Option, IfSome}
 use Rattle.block_disk.specs.DiskState.{DiskState}
 use Rattle.flat_image.specs.declared.base.Base.{Base}
@@ -14,8 +14,13 @@ use Rattle.image_core.specs.Loading.{AreStackOrNone, IsLoadReason}
 use Rattle.image_core.specs.Opening.{lowers_from}
 use Rattle.image_core.proofs.SheetsRead.{layers-length}
 use Rattle.overlay_tool.specs.Flattening.{AreTold}
-use Rattle.overlay_tool.specs.Images.{DiskPort, LiesOver}
-use Rattle.overlay_tool.specs.ImageCauses.{AreStackedFiles}
+use Rattle.overlay_tool.specs.Images.{DiskPort, AreStackedFiles, LiesOver, Takes}
+use Rattle.overlay_tool.specs.ImageCauses.{IsCreate, ReachesDisk, Untouched, ImageCause}
+use Rattle.overlay_tool.specs.declared.words.Command.{Command}
+use Rattle.overlay_tool.specs.declared.words.Command.TheVariants.{Create}
+use Rattle.overlay_tool.specs.declared.refusal.Refusal.{Refusal}
+use Rattle.overlay_tool.specs.declared.refusal.Refusal.TheVariants as refused
+use Rattle.overlay_tool.specs.Causes.{Ports}
 use Rattle.overlay_tool.specs.ImageSteps.{IsOpened, OpenCause, load_refused_as}
 use Rattle.image_core.specs.Parts as parts
 use Rattle.overlay_tool.proofs.Pieces.{IfSome-at, IfSome-each, length_told}
@@ -42,19 +47,20 @@ stacked told layers are legal =
 
 -- an image stands for nothing done over a base: that lies over the layers
 pub lies-over : (told : Option (List (List ℕ))) (count : ℕ) (layers : List LayerIndex) (tells : Bool) (s : DiskState) (faults : ℕ) (p : Parts) (base : Base)
-    → length layers ≡ count → p.lowers ≡ layers → base.lowers ≡ lowers_from told layers → ImageStands tells s faults p base [] → LiesOver told count base
-lies-over told count layers tells s faults p base long same lowers stands = record {
+    → AreStackedFiles told → length layers ≡ count → p.lowers ≡ layers → base.lowers ≡ lowers_from told layers → ImageStands tells s faults p base [] → LiesOver told count base
+lies-over told count layers tells s faults p base are long same lowers stands = record {
+  stacked = are;
   sound = stands.fits.sound;
   long = layers-length base.lowers p.lowers stands.fits.lowers ∙ ap length same ∙ long;
   lowers = IfSome-each told (λ files e. lowers ∙ ap (λ (o : Option (List (List ℕ))). lowers_from o layers) e);
 }
 
-pub opened : (told : Option (List (List ℕ))) (count : ℕ) (layers : List LayerIndex) (tells : Bool) (s s' : DiskState) (f f' : ℕ) (p : Parts) → length layers ≡ count → p.lowers ≡ layers
+pub opened : (told : Option (List (List ℕ))) (count : ℕ) (layers : List LayerIndex) (tells : Bool) (s s' : DiskState) (f f' : ℕ) (p : Parts) → AreStackedFiles told → length layers ≡ count → p.lowers ≡ layers
     → parts.IsOpened tells s s' f' told p
     → IsOpened told count (record { tells = tells; state = s; faults = f }) (record { tells = tells; state = s'; faults = f'; parts = p })
-opened told count layers tells s s' f f' p long same is = (
+opened told count layers tells s s' f f' p are long same is = (
   is.base,
-  lies-over told count layers tells s' f' p is.base long same (is.starts.lowers_are ∙ ap (lowers_from told) same) is.stands,
+  lies-over told count layers tells s' f' p is.base are long same (is.starts.lowers_are ∙ ap (lowers_from told) same) is.stands,
   is.starts.told,
   is.stands,
 )
@@ -64,8 +70,21 @@ pub load-refused : (told : Option (List (List ℕ))) (count shelf shelf_now : �
     → IfSome told (λ files. AreTold files layers) → AreStackOrNone layers → (fault ≡ load.Failed → disk.faults < disk_now.faults) → (IsTrue disk.tells → IsLoadReason disk.state.seen layers fault)
     → OpenCause told count shelf shelf_now disk disk_now (load_refused_as fault)
 load-refused told count shelf shelf_now disk disk_now layers load.Memory are legal failed reason = tt
-load-refused told count shelf shelf_now disk disk_now layers load.Failed are legal failed reason = failed refl
+load-refused told count shelf shelf_now disk disk_now layers load.Failed are legal failed reason = (failed refl, stacked told layers are legal)
 load-refused told count shelf shelf_now disk disk_now layers fault are legal failed reason = (
   stacked told layers are legal,
   record { layers = layers; read = told-layers-of told layers are; reason = reason; of_image = ((λ e. cc), (λ e. cc)) },
 )
+
+-- the command that would have opened it is refused so
+pub open-failed : (command : Command) (bytes : List ℕ) (before now : Ports) (disk disk_now : DiskPort) → (IsCreate command → ⊥) → Takes command before.left bytes
+    → Untouched before now disk disk_now → (refusal : Refusal) → OpenCause before.files before.count before.shelf_faults now.shelf_faults disk disk_now refusal
+    → ImageCause command before now disk disk_now refusal
+open-failed command bytes before now disk disk_now other takes same refused.Memory cause = inl same
+open-failed command bytes before now disk disk_now other takes same refused.DiskFault (rose, are) =
+    (rose, record { fed = (bytes, takes); stacked = are; size = λ asked is. absurd (other (asked, is)) }, inl same)
+open-failed command bytes before now disk disk_now other takes same refused.ShelfFault cause = (cause, (bytes, takes), inl same)
+open-failed command bytes before now disk disk_now other takes same (refused.Layer number fault) cause = ((bytes, takes), cause, same)
+open-failed command bytes before now disk disk_now other takes same (refused.Stack fault) cause = ((bytes, takes), cause.0, cause.1, same)
+open-failed command bytes before now disk disk_now other takes same (refused.Load fault) cause = (other, (bytes, takes), cause.0, cause.1, same)
+open-failed command bytes before now disk disk_now other takes same refusal cause = absurd cause

@@ -10,7 +10,7 @@ use Rattle.overlay_tool.specs.declared.refusal.Refusal.{Refusal}
 use Rattle.overlay_tool.specs.declared.refusal.Refusal.TheVariants as refused
 use Rattle.overlay_tool.specs.Causes.{Ports}
 use Rattle.overlay_tool.specs.Images.{DiskPort, Opens, PrintsFront, Does, Began, IsBegun}
-use Rattle.overlay_tool.specs.ImageCauses.{ImageCause}
+use Rattle.overlay_tool.specs.ImageCauses.{ReachesDisk, ImageCause}
 use Rattle.overlay_tool.specs.ImageSteps.{ImagePort, Stands, disk_of, Adds, fault, WritesSectors, WritesFront, ReadCause}
 use Rattle.overlay_tool.proofs.Answered.{ok-both, err-both}
 use Rattle.overlay_tool.proofs.Pieces.{IfSome-at, IfSome-each}
@@ -69,6 +69,9 @@ module _ (at count : ℕ) (before now : Ports) (disk : DiskPort) (old new : Imag
     prints = read-front front;
   }
 
+  reaches : ReachesDisk (Read at count) before
+  reaches = record { fed = ([], opens.takes); stacked = opens.over.stacked; size = λ asked is. absurd (cc) }
+
   none-begun : IsBegun [] disk.faults new.faults []
   none-begun = record { front = []; starts = record { rest = []; is = refl }; is = inl refl }
 
@@ -80,9 +83,9 @@ module _ (at count : ℕ) (before now : Ports) (disk : DiskPort) (old new : Imag
   read-refused shelf sink later shelf_later sink_later front refused.Memory cause = inr (inl (read-began [] none-begun cause front))
   read-refused shelf sink later shelf_later sink_later front refused.DiskFault cause =
       let rose : disk.faults < new.faults = omega (arith, later, cause.0) in
-      (rose, inr (inr (read-began fault (fault-begun rose) cause.1 front)))
+      (rose, reaches, inr (inr (read-began fault (fault-begun rose) cause.1 front)))
   read-refused shelf sink later shelf_later sink_later front refused.ShelfFault cause =
-      (omega (arith, shelf_later, cause.0), inr ((at, count, refl), read-began [] none-begun cause.1 front))
+      (omega (arith, shelf_later, cause.0), ([], opens.takes), inr ((at, count, refl), read-began [] none-begun cause.1 front))
   read-refused shelf sink later shelf_later sink_later front refused.SinkFault cause =
       (omega (arith, sink_later, cause.0), read-began [] none-begun cause.1 front)
   read-refused shelf sink later shelf_later sink_later front other cause = absurd cause

@@ -53,11 +53,11 @@ image-memory command before now disk disk_now (refused.Full rows sectors) (full,
       crash = full.crash;
       prints = record { text = line.0; is = line.1; front = AppendsFront-none before.written now.written line.0 keeps };
     }))
-image-memory command before now disk disk_now refused.DiskFault (rose, stands) = elim stands [
+image-memory command before now disk disk_now refused.DiskFault (rose, reaches, stands) = elim stands [
   | inl untouched ↦ inl untouched
-  | inr further ↦ elim further [ inl failed ↦ inr (inr (rose, failed)) | inr began ↦ inr (inl began) ]
+  | inr further ↦ elim further [ inl failed ↦ inr (inr (rose, reaches, failed)) | inr began ↦ inr (inl began) ]
 ]
-image-memory command before now disk disk_now refused.ShelfFault (rose, stands) = elim stands [
+image-memory command before now disk disk_now refused.ShelfFault (rose, fed, stands) = elim stands [
   | inl untouched ↦ inl untouched
   | inr began ↦ inr (inl began.1)
 ]

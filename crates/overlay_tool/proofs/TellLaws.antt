@@ -1,6 +1,6 @@
 -- The commands that change an image.
 use Rattle.std.proofs.Common.{◌≡◌, ℕ, ◌+◌, ◌<◌, ◌≤◌, IsTrue, List, [], ◌++◌, refl, sym, ap, ◌∙◌, subst, arith, inl, inr}
-use Rattle.std.specs.Prelude.{Option, Some, Result, Ok, Err, OnOk, OnErr, IfErr}
+use Rattle.std.specs.Prelude.{Option, Some, None, Result, Ok, Err, OnOk, OnErr, IfErr}
 use Rattle.std.specs.Io.KnownBytes.{Appends}
 use Rattle.std.proofs.KnownBytes.{Keeps-refl}
 use Rattle.byte_ports.specs.Ports.{AppendsFront}
@@ -17,7 +17,7 @@ use Rattle.overlay_tool.specs.declared.refusal.Refusal.{Refusal}
 use Rattle.overlay_tool.specs.declared.refusal.Refusal.TheVariants as refused
 use Rattle.overlay_tool.specs.Causes.{Ports}
 use Rattle.overlay_tool.specs.Images.{DiskPort, Opens, IsPrinted, Does, Began, IsBegun, act_of, kept_act, acts_of, reach_of}
-use Rattle.overlay_tool.specs.ImageCauses.{ImageCause}
+use Rattle.overlay_tool.specs.ImageCauses.{ReachesDisk, ImageCause}
 use Rattle.overlay_tool.specs.ImageSteps.{ImagePort, Stands, disk_of, Adds, fault, ChangeCause, TellCause}
 use Rattle.overlay_tool.proofs.Answered.{ok-both}
 use Rattle.overlay_tool.proofs.WithoutReads.{IsChange, shows-kept}
@@ -72,6 +72,13 @@ module _ (command : Command) (bytes line : List ℕ) (change : Act) (before now 
     prints = record { text = line; is = printed; front = front };
   }
 
+  reaches : ReachesDisk command before
+  reaches = record {
+    fed = (bytes, opens.takes);
+    stacked = opens.over.stacked;
+    size = λ wanted is. absurd (let none : None ≡ Some change = sym (ap (λ (c : Command). act_of c bytes) is) ∙ asked in cc);
+  }
+
   none-begun : IsBegun (acts_of command bytes) disk.faults new.faults []
   none-begun = record { front = []; starts = record { rest = acts_of command bytes; is = refl }; is = inl refl }
 
@@ -90,7 +97,7 @@ module _ (command : Command) (bytes line : List ℕ) (change : Act) (before now 
       ]))
   change-refused sink later sink_later refused.DiskFault (cause, keeps) =
       let rose : disk.faults < new.faults = omega (arith, later, cause.0) in
-      (rose, inr (inr (change-began (cause.1.0 ++ fault) (fault-begun cause.1.0 cause.1.1 rose) cause.1.2 (AppendsFront-none before.written now.written line keeps))))
+      (rose, reaches, inr (inr (change-began (cause.1.0 ++ fault) (fault-begun cause.1.0 cause.1.1 rose) cause.1.2 (AppendsFront-none before.written now.written line keeps))))
   change-refused sink later sink_later (refused.Full rows sectors) (cause, keeps) =
       let r : rows ≡ base.rows = cause.rows_are ∙ rows-are old base stands in
       let n : sectors ≡ base.filled = cause.sectors_are ∙ filled-is old base stands in (

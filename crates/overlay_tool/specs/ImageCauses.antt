@@ -20,7 +20,7 @@ use Rattle.overlay_tool.specs.declared.refusal.Refusal.{Refusal}
 use Rattle.overlay_tool.specs.declared.refusal.Refusal.TheVariants as refused
 use Rattle.overlay_tool.specs.Prints.{LayerSheet, AreLayers, heads_of, sectors_of}
 use Rattle.overlay_tool.specs.Causes.{Ports, IsOfImage, StopsAt}
-use Rattle.overlay_tool.specs.Images.{DiskPort, Takes, act_of, reach_of, Opens, LeavesOf, Began}
+use Rattle.overlay_tool.specs.Images.{DiskPort, Takes, act_of, reach_of, AreStackedFiles, Opens, LeavesOf, Began}
 
 -- nothing was written, and the disk is as it was
 pub record Untouched (before now : Ports) (disk disk_now : DiskPort) : Type 0 where
@@ -41,10 +41,6 @@ IsRead command = (at : ℕ) × (count : ℕ) × (command ≡ Read at count)
 abbrev pub IsFed : Command → Ports → Type 0
 IsFed command before = (bytes : List ℕ) × Takes command before.left bytes
 
--- the shelf's files, where it tells them, are layers that form a stack, or there are none
-abbrev pub AreStackedFiles : Option (List (List ℕ)) → Type 0
-AreStackedFiles told = IfSome told (λ files. (layers : List LayerSheet) × AreLayers files layers × (1 ≤ length files → Legal (heads_of layers)))
-
 -- layers have another size than that
 abbrev pub HaveOtherSize : List (List ℕ) → ℕ → Type 0
 HaveOtherSize files sectors = (layers : List LayerSheet) × AreLayers files layers × Legal (heads_of layers) × (sectors_of layers ≢ sectors)
@@ -58,6 +54,12 @@ abbrev pub HasSize : Option ℕ → Option (List (List ℕ)) → ℕ → Type 0
 HasSize None told count = 1 ≤ count
 HasSize (Some sectors) told count = IfSome told (λ files. HaveOwnSize files sectors)
 
+-- what comes before the disk is as it should be: the source, the shelf's layers, their stack, and a new image's size
+pub record ReachesDisk (command : Command) (before : Ports) : Type 0 where
+  pub fed : IsFed command before
+  pub stacked : AreStackedFiles before.files
+  pub size : (asked : Option ℕ) → command ≡ Create asked → HasSize asked before.files before.count
+
 -- layers in memory, read of the shelf's files
 abbrev pub AreReadOf : Option (List (List ℕ)) → List LayerIndex → Type 0
 AreReadOf told layers = IfSome told (λ files. AreLayersOf files layers)
@@ -70,11 +72,12 @@ pub record HoldsNone (told : Option (List (List ℕ))) (disk : DiskPort) (fault 
   pub of_image : IsOfImage fault
 
 -- the command speaks of sectors behind the image's end
-pub record GoesPast (command : Command) (before : Ports) (disk : DiskPort) : Type 0 where
+pub record GoesPast (command : Command) (before : Ports) (disk disk_now : DiskPort) : Type 0 where
   pub bytes : List ℕ
   pub base : Base
   pub opens : Opens command before disk bytes base
   pub past : base.sectors < reach_of command bytes
+  pub crash : LeavesOf disk_now base []
 
 -- the top has used so many rows and sectors, and with those of the change it would be over what it may
 pub record IsFull (command : Command) (before : Ports) (disk disk_now : DiskPort) (rows sectors : ℕ) : Type 0 where
@@ -118,18 +121,18 @@ ImageCause command before now disk disk_now refused.ImageExists =
 ImageCause command before now disk disk_now (refused.Load fault) =
     (IsCreate command → ⊥) × IsFed command before × AreStackedFiles before.files × HoldsNone before.files disk fault × Untouched before now disk disk_now
 ImageCause command before now disk disk_now refused.OutOfRange =
-    GoesPast command before disk × Untouched before now disk disk_now
+    GoesPast command before disk disk_now × Untouched before now disk disk_now
 ImageCause command before now disk disk_now (refused.Full rows sectors) =
     IsFull command before disk disk_now rows sectors × Keeps before.written now.written
 ImageCause command before now disk disk_now refused.DiskFault =
-    (disk.faults < disk_now.faults)
+    (disk.faults < disk_now.faults) × ReachesDisk command before
     × (Untouched before now disk disk_now ⊎ FailsToMake command before now disk ⊎ Began command before now disk disk_now)
 ImageCause command before now disk disk_now refused.ShelfFault =
-    (before.shelf_faults < now.shelf_faults)
+    (before.shelf_faults < now.shelf_faults) × IsFed command before
     × (Untouched before now disk disk_now ⊎ (IsRead command × Began command before now disk disk_now))
 ImageCause command before now disk disk_now refused.SinkFault =
     (before.sink_faults < now.sink_faults) × Began command before now disk disk_now
 ImageCause command before now disk disk_now refused.Memory =
     Untouched before now disk disk_now ⊎ Began command before now disk disk_now
-    ⊎ ((disk.faults < disk_now.faults) × FailsToMake command before now disk)
+    ⊎ ((disk.faults < disk_now.faults) × ReachesDisk command before × FailsToMake command before now disk)
 ImageCause command before now disk disk_now other = ⊥

@@ -29,8 +29,8 @@ use Rattle.overlay_tool.specs.declared.refusal.Refusal.{Refusal}
 use Rattle.overlay_tool.specs.declared.refusal.Refusal.TheVariants as refused
 use Rattle.overlay_tool.specs.Prints.{LayerSheet, AreLayers, heads_of}
 use Rattle.overlay_tool.specs.Causes.{StopsAt}
-use Rattle.overlay_tool.specs.Images.{DiskPort, LiesOver, IsNew, kept_act}
-use Rattle.overlay_tool.specs.ImageCauses.{AreStackedFiles, HaveOtherSize, HasSize, HoldsNone}
+use Rattle.overlay_tool.specs.Images.{DiskPort, AreStackedFiles, LiesOver, IsNew, kept_act}
+use Rattle.overlay_tool.specs.ImageCauses.{HaveOtherSize, HasSize, HoldsNone}
 
 -- an image in memory with its disk, at one moment
 pub record ImagePort : Type 1 where
@@ -55,7 +55,7 @@ IsOpened told count disk image =
 -- why no image was opened
 abbrev pub OpenCause : Option (List (List ℕ)) → ℕ → (shelf shelf_now : ℕ) → (disk disk_now : DiskPort) → Refusal → Type 0
 OpenCause told count shelf shelf_now disk disk_now refused.Memory = Unit {0}
-OpenCause told count shelf shelf_now disk disk_now refused.DiskFault = disk.faults < disk_now.faults
+OpenCause told count shelf shelf_now disk disk_now refused.DiskFault = (disk.faults < disk_now.faults) × AreStackedFiles told
 OpenCause told count shelf shelf_now disk disk_now refused.ShelfFault = shelf < shelf_now
 OpenCause told count shelf shelf_now disk disk_now (refused.Layer number fault) = IfSome told (λ files. StopsAt files number fault)
 OpenCause told count shelf shelf_now disk disk_now (refused.Stack fault) =
@@ -183,7 +183,7 @@ create_refused_as create.Failed = refused.DiskFault
 abbrev pub MakeCause : Option ℕ → Option (List (List ℕ)) → ℕ → (shelf shelf_now : ℕ) → (disk disk_now : DiskPort) → Refusal → Type 0
 MakeCause asked told count shelf shelf_now disk disk_now refused.Memory = Quiet disk.state disk_now.state
 MakeCause asked told count shelf shelf_now disk disk_now refused.DiskFault =
-    (disk.faults < disk_now.faults)
+    (disk.faults < disk_now.faults) × HasSize asked told count × AreStackedFiles told
     × (Quiet disk.state disk_now.state ⊎ (IsTrue disk.tells → mark_of (disk.state.seen manifest_file) ≡ None))
 MakeCause asked told count shelf shelf_now disk disk_now refused.ShelfFault = (shelf < shelf_now) × Quiet disk.state disk_now.state
 MakeCause asked told count shelf shelf_now disk disk_now (refused.Layer number reason) =

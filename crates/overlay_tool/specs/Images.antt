@@ -12,12 +12,14 @@ use Rattle.flat_image.specs.Entries.{entry, StartsWith}
 use Rattle.flat_image.specs.History.{History, after, reply}
 use Rattle.flat_image.specs.History as history
 use Rattle.flat_image.specs.Sectors.{sector_count}
+use Rattle.flat_image.specs.Stacks.{Legal}
 use Rattle.image_core.specs.Numbers.{manifest_file}
 use Rattle.image_core.specs.Shows.{Shows, IsSound}
 use Rattle.image_core.specs.Creating.{fresh_at}
 use Rattle.image_core.specs.Standing.{ShowsLeft}
 use Rattle.overlay_tool.specs.declared.words.Command.{Command}
 use Rattle.overlay_tool.specs.declared.words.Command.TheVariants.{Create, Read, Write, Zero}
+use Rattle.overlay_tool.specs.Prints.{LayerSheet, AreLayers, heads_of}
 use Rattle.overlay_tool.specs.Causes.{Ports}
 use Rattle.overlay_tool.specs.Reports.{created_line, wrote_line, zeroed_line}
 
@@ -59,8 +61,13 @@ reach_of (Write at) bytes = at + sector_count bytes
 reach_of (Zero at count) bytes = at + count
 reach_of other bytes = 0
 
+-- the shelf's files, where it tells them, are layers that form a stack, or there are none
+abbrev pub AreStackedFiles : Option (List (List ℕ)) → Type 0
+AreStackedFiles told = IfSome told (λ files. (layers : List LayerSheet) × AreLayers files layers × (1 ≤ length files → Legal (heads_of layers)))
+
 -- the lower layers of the base are the shelf's, whose files they are where the shelf tells them, and form a stack
 pub record LiesOver (told : Option (List (List ℕ))) (count : ℕ) (base : Base) : Type 0 where
+  pub stacked : AreStackedFiles told
   pub sound : IsSound base
   pub long : length base.lowers ≡ count
   pub lowers : IfSome told (λ files. base.lowers ≡ files)

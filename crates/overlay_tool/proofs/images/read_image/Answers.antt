@@ -1,10 +1,13 @@
-use Rattle.std.proofs.Common.{◌≡◌, ℕ, ◌+◌, ◌≤◌, List, [], refl, ◌∙◌, subst, arith}
+use Rattle.std.proofs.Common.{◌≡◌, ℕ, ◌+◌, ◌≤◌, ◌<◌, List, [], refl, ◌∙◌, subst, arith}
 use Rattle.std.specs.Prelude.{Option, OnOk, OnErr}
+use Rattle.std.proofs.KnownBytes.{Keeps-refl}
 use Rattle.overlay_tool.specs.declared.words.Command.TheVariants.{Read}
 use Rattle.overlay_tool.specs.Causes.{Ports}
 use Rattle.overlay_tool.specs.Images.{DiskPort, Opens}
 use Rattle.overlay_tool.specs.ImageSteps.{ImagePort, WritesSectors, WritesFront}
-use Rattle.overlay_tool.proofs.ImageLaws.{lowers-count, size-is}
+use Rattle.overlay_tool.proofs.ImageAdds.{adds-nothing}
+use Rattle.overlay_tool.proofs.OpenLaws.{open-failed}
+use Rattle.overlay_tool.proofs.ImageLaws.{lowers-count, size-is, not-within, leaves-acts}
 use Rattle.overlay_tool.proofs.ReadLaws.{read-done, read-failed}
 use Rattle.overlay_tool.proofs.images.read_image.Goals as goal
 
@@ -50,3 +53,31 @@ returns-clause-refused g c =
     (g.S.Shelf.faults c.open_image.new.shelf) (g.B.Sink.faults c.args.out.now) c.in-Ok.ensures.later c.in-Ok.ensures.shelf_later (omega arith)
     (subst (λ (o : Option (List (List ℕ))). OnErr c.copy_sectors-result.result (WritesFront image o c.args.at c.args.count before.written now.written)) same c.copy_sectors-result.ensures.front)
     c.copy_sectors-result.ensures.refused)
+
+pub returns-then-not-is_within-clause-refused : goal.returns-then-not-is_within-clause-refused
+returns-then-not-is_within-clause-refused g c =
+    let old : ImagePort = record { tells = g.D.Disk.tells; state = g.D.Disk.state c.in-Ok.image.disk; faults = g.D.Disk.faults c.in-Ok.image.disk; parts = c.in-Ok.image.parts } in
+    let opened = c.in-Ok.ensures.opened in
+    let size = size-is old opened.0 opened.3 in
+    let is = c.sectors.ensures in
+    let past : c.sectors.result < c.args.at + c.args.count = not-within c.is_within.result (c.args.at + c.args.count) c.sectors.result c.if-not-is_within.true c.is_within.ensures.1 in
+    λ left left_now source source_now.
+    rw c.into_disk.ensures (
+      record {
+        bytes = [];
+        base = opened.0;
+        opens = record { takes = refl; over = opened.1; starts = opened.2 };
+        past = omega (arith, past, size, is);
+        crash = leaves-acts old opened.0 opened.3 old [] (adds-nothing old);
+      },
+      record { sink = Keeps-refl (g.B.Sink.written c.args.out.now); same = c.in-Ok.ensures.quiet },
+    )
+
+pub returns-in-Err-clause-refused : goal.returns-in-Err-clause-refused
+returns-in-Err-clause-refused g c =
+    let disk : DiskPort = record { tells = g.D.Disk.tells; state = g.D.Disk.state c.args.disk; faults = g.D.Disk.faults c.args.disk } in
+    let disk_now : DiskPort = record { tells = g.D.Disk.tells; state = g.D.Disk.state c.in-Err.disk; faults = g.D.Disk.faults c.in-Err.disk } in
+    λ left left_now source source_now.
+    let before : Ports = record { left = left; source_faults = source; written = g.B.Sink.written c.args.out.now; sink_faults = g.B.Sink.faults c.args.out.now; files = g.S.Shelf.files c.args.shelf.now; count = g.S.Shelf.count c.args.shelf.now; shelf_faults = g.S.Shelf.faults c.args.shelf.now } in
+    let now : Ports = record { left = left_now; source_faults = source_now; written = g.B.Sink.written c.args.out.now; sink_faults = g.B.Sink.faults c.args.out.now; files = g.S.Shelf.files c.open_image.new.shelf; count = g.S.Shelf.count c.open_image.new.shelf; shelf_faults = g.S.Shelf.faults c.open_image.new.shelf } in
+    open-failed (Read c.args.at c.args.count) ([]) before now disk disk_now (λ (asked, is). cc) refl (record { sink = Keeps-refl before.written; same = c.in-Err.ensures.quiet }) c.in-Err.refusal c.in-Err.ensures.refused

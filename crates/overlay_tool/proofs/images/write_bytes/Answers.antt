@@ -1,4 +1,4 @@
-use Rattle.std.proofs.Common.{◌≡◌, ℕ, ◌+◌, ◌<◌, ◌≤◌, refl, subst, arith}
+use Rattle.std.proofs.Common.{◌≡◌, ℕ, ◌+◌, ◌<◌, ◌≤◌, [], refl, subst, arith}
 use Rattle.std.specs.Prelude.{Some, OnOk, IfErr}
 use Rattle.std.specs.Io.KnownBytes.{Appends}
 use Rattle.std.proofs.KnownBytes.{Keeps-refl}
@@ -9,7 +9,9 @@ use Rattle.overlay_tool.specs.Reports.{wrote_line}
 use Rattle.overlay_tool.specs.Causes.{Ports}
 use Rattle.overlay_tool.specs.Images.{DiskPort, Opens, kept_act}
 use Rattle.overlay_tool.specs.ImageSteps.{ImagePort, Adds, TellCause}
-use Rattle.overlay_tool.proofs.ImageLaws.{size-is, not-within}
+use Rattle.overlay_tool.proofs.ImageAdds.{adds-nothing}
+use Rattle.overlay_tool.proofs.OpenLaws.{open-failed}
+use Rattle.overlay_tool.proofs.ImageLaws.{size-is, not-within, leaves-acts}
 use Rattle.overlay_tool.proofs.TellLaws.{change-done, change-failed}
 use Rattle.overlay_tool.proofs.images.write_bytes.Goals as goal
 
@@ -60,6 +62,21 @@ returns-then-not-is_within-clause-refused g c =
     let past : c.sectors.result < c.args.at + sector_count c.args.bytes.now = not-within c.is_within.result (c.args.at + sector_count c.args.bytes.now) c.sectors.result c.if-not-is_within.true c.is_within.ensures.1 in
     λ left left_now source source_now whole.
     rw c.into_disk.ensures (
-      record { bytes = c.args.bytes.now; base = opened.0; opens = record { takes = (whole, c.requires); over = opened.1; starts = opened.2 }; past = omega (arith, past, size, is) },
+      record {
+        bytes = c.args.bytes.now;
+        base = opened.0;
+        opens = record { takes = (whole, c.requires); over = opened.1; starts = opened.2 };
+        past = omega (arith, past, size, is);
+        crash = leaves-acts old opened.0 opened.3 old [] (adds-nothing old);
+      },
       record { sink = Keeps-refl (g.B.Sink.written c.args.out.now); same = c.in-Ok.ensures.quiet },
     )
+
+pub returns-in-Err-clause-refused : goal.returns-in-Err-clause-refused
+returns-in-Err-clause-refused g c =
+    let disk : DiskPort = record { tells = g.D.Disk.tells; state = g.D.Disk.state c.args.disk; faults = g.D.Disk.faults c.args.disk } in
+    let disk_now : DiskPort = record { tells = g.D.Disk.tells; state = g.D.Disk.state c.in-Err.disk; faults = g.D.Disk.faults c.in-Err.disk } in
+    λ left left_now source source_now whole.
+    let before : Ports = record { left = left; source_faults = source; written = g.B.Sink.written c.args.out.now; sink_faults = g.B.Sink.faults c.args.out.now; files = g.S.Shelf.files c.args.shelf.now; count = g.S.Shelf.count c.args.shelf.now; shelf_faults = g.S.Shelf.faults c.args.shelf.now } in
+    let now : Ports = record { left = left_now; source_faults = source_now; written = g.B.Sink.written c.args.out.now; sink_faults = g.B.Sink.faults c.args.out.now; files = g.S.Shelf.files c.open_image.new.shelf; count = g.S.Shelf.count c.open_image.new.shelf; shelf_faults = g.S.Shelf.faults c.open_image.new.shelf } in
+    open-failed (Write c.args.at) (c.args.bytes.now) before now disk disk_now (λ (asked, is). cc) (whole, c.requires) (record { sink = Keeps-refl before.written; same = c.in-Err.ensures.quiet }) c.in-Err.refusal c.in-Err.ensures.refused

@@ -1,13 +1,16 @@
-use Rattle.std.proofs.Common.{◌≡◌, ℕ, ◌+◌, ◌≤◌, [], refl, subst, arith}
+use Rattle.std.proofs.Common.{◌≡◌, ℕ, ◌+◌, ◌≤◌, ◌<◌, [], refl, subst, arith}
 use Rattle.std.specs.Prelude.{Some, OnOk, IfErr}
 use Rattle.std.specs.Io.KnownBytes.{Appends}
 use Rattle.flat_image.specs.declared.act.Act.TheVariants as act
+use Rattle.std.proofs.KnownBytes.{Keeps-refl}
 use Rattle.overlay_tool.specs.declared.words.Command.TheVariants.{Zero}
 use Rattle.overlay_tool.specs.Reports.{zeroed_line}
 use Rattle.overlay_tool.specs.Causes.{Ports}
 use Rattle.overlay_tool.specs.Images.{DiskPort, Opens, kept_act}
 use Rattle.overlay_tool.specs.ImageSteps.{ImagePort, Adds, TellCause}
-use Rattle.overlay_tool.proofs.ImageLaws.{size-is}
+use Rattle.overlay_tool.proofs.ImageAdds.{adds-nothing}
+use Rattle.overlay_tool.proofs.OpenLaws.{open-failed}
+use Rattle.overlay_tool.proofs.ImageLaws.{size-is, not-within, leaves-acts}
 use Rattle.overlay_tool.proofs.TellLaws.{change-done, change-failed}
 use Rattle.overlay_tool.proofs.images.zero_image.Goals as goal
 
@@ -48,3 +51,31 @@ returns-clause-refused g c =
     (subst (λ (a : ℕ). IfErr c.zero_told-result.result (TellCause (act.Zero a c.extent_of.result.count) (zeroed_line a c.extent_of.result.count) old new before.sink_faults now.sink_faults before.written now.written)) place c.zero_told-result.ensures.refused) in
     rw c.into_disk-2.ensures (change-failed (Zero c.args.at c.args.count) ([]) (zeroed_line c.args.at c.args.count) (act.Zero c.args.at c.args.count) before now disk old new opened.0 refl tt refl opens inside opened.3 refl c.zero_told-result.result
     before.sink_faults c.in-Ok.ensures.later (omega arith) cause)
+
+pub returns-then-not-is_within-clause-refused : goal.returns-then-not-is_within-clause-refused
+returns-then-not-is_within-clause-refused g c =
+    let old : ImagePort = record { tells = g.D.Disk.tells; state = g.D.Disk.state c.in-Ok.image.disk; faults = g.D.Disk.faults c.in-Ok.image.disk; parts = c.in-Ok.image.parts } in
+    let opened = c.in-Ok.ensures.opened in
+    let size = size-is old opened.0 opened.3 in
+    let is = c.sectors.ensures in
+    let past : c.sectors.result < c.args.at + c.args.count = not-within c.is_within.result (c.args.at + c.args.count) c.sectors.result c.if-not-is_within.true c.is_within.ensures.1 in
+    λ left left_now source source_now.
+    rw c.into_disk.ensures (
+      record {
+        bytes = [];
+        base = opened.0;
+        opens = record { takes = refl; over = opened.1; starts = opened.2 };
+        past = omega (arith, past, size, is);
+        crash = leaves-acts old opened.0 opened.3 old [] (adds-nothing old);
+      },
+      record { sink = Keeps-refl (g.B.Sink.written c.args.out.now); same = c.in-Ok.ensures.quiet },
+    )
+
+pub returns-in-Err-clause-refused : goal.returns-in-Err-clause-refused
+returns-in-Err-clause-refused g c =
+    let disk : DiskPort = record { tells = g.D.Disk.tells; state = g.D.Disk.state c.args.disk; faults = g.D.Disk.faults c.args.disk } in
+    let disk_now : DiskPort = record { tells = g.D.Disk.tells; state = g.D.Disk.state c.in-Err.disk; faults = g.D.Disk.faults c.in-Err.disk } in
+    λ left left_now source source_now.
+    let before : Ports = record { left = left; source_faults = source; written = g.B.Sink.written c.args.out.now; sink_faults = g.B.Sink.faults c.args.out.now; files = g.S.Shelf.files c.args.shelf.now; count = g.S.Shelf.count c.args.shelf.now; shelf_faults = g.S.Shelf.faults c.args.shelf.now } in
+    let now : Ports = record { left = left_now; source_faults = source_now; written = g.B.Sink.written c.args.out.now; sink_faults = g.B.Sink.faults c.args.out.now; files = g.S.Shelf.files c.open_image.new.shelf; count = g.S.Shelf.count c.open_image.new.shelf; shelf_faults = g.S.Shelf.faults c.open_image.new.shelf } in
+    open-failed (Zero c.args.at c.args.count) ([]) before now disk disk_now (λ (asked, is). cc) refl (record { sink = Keeps-refl before.written; same = c.in-Err.ensures.quiet }) c.in-Err.refusal c.in-Err.ensures.refused

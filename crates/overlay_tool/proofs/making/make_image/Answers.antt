@@ -6,7 +6,7 @@ use Rattle.image_core.specs.Creating.{AreLegal}
 use Rattle.top_writer.proofs.QuietLaws.{quiet_none}
 use Rattle.overlay_tool.specs.Images.{DiskPort, IsSizeFor}
 use Rattle.overlay_tool.specs.ImageSteps.{SizeCause}
-use Rattle.overlay_tool.proofs.OpenLaws.{told-layers-of}
+use Rattle.overlay_tool.proofs.OpenLaws.{told-layers-of, stacked}
 use Rattle.overlay_tool.proofs.MakeLaws.{size-refused, make-refused, made}
 use Rattle.overlay_tool.proofs.making.make_image.Goals as goal
 
@@ -27,7 +27,7 @@ returns-in-Ok-create-clause-made g c =
     let size : IsSizeFor c.args.asked (g.S.Shelf.count c.args.shelf.now) c.in-Ok-size_over.sectors =
     subst (λ (m : ℕ). IsSizeFor c.args.asked m c.in-Ok-size_over.sectors) (ap length view ∙ c.in-Ok.ensures.count) c.in-Ok-size_over.ensures.asked in
     made c.args.asked told (g.S.Shelf.count c.args.shelf.now) c.in-Ok-size_over.sectors c.from_vec.result g.D.Disk.tells (g.D.Disk.state c.args.disk) (g.D.Disk.state c.in-Ok-create.image.disk)
-    (g.D.Disk.faults c.args.disk) (g.D.Disk.faults c.in-Ok-create.image.disk) c.in-Ok-create.image.parts (ap length same ∙ c.in-Ok.ensures.count) c.in-Ok-create.ensures.frame.0 size c.in-Ok-create.ensures.new
+    (g.D.Disk.faults c.args.disk) (g.D.Disk.faults c.in-Ok-create.image.disk) c.in-Ok-create.image.parts (stacked told layers c.in-Ok.ensures.told c.in-Ok.ensures.legal) (ap length same ∙ c.in-Ok.ensures.count) c.in-Ok-create.ensures.frame.0 size c.in-Ok-create.ensures.new
     (c.in-Ok-create.ensures.starts told (subst (λ (l : List LayerIndex). IfSome told (λ files. AreLayersOf files l)) (sym same) (told-layers-of told layers c.in-Ok.ensures.told)))
 
 pub returns-in-Err-create-clause-refused : goal.returns-in-Err-create-clause-refused

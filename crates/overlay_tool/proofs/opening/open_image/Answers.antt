@@ -4,7 +4,7 @@ use Rattle.sealed_layer.specs.Layers.{LayerIndex}
 use Rattle.image_core.specs.View.{AreLayersOf}
 use Rattle.image_core.specs.Loading.{IsLoadReason}
 use Rattle.overlay_tool.specs.Images.{DiskPort}
-use Rattle.overlay_tool.proofs.OpenLaws.{told-layers-of, opened, load-refused}
+use Rattle.overlay_tool.proofs.OpenLaws.{told-layers-of, stacked, opened, load-refused}
 use Rattle.overlay_tool.proofs.opening.open_image.Goals as goal
 
 pub returns-in-Ok-load-clause-opened : goal.returns-in-Ok-load-clause-opened
@@ -14,7 +14,7 @@ returns-in-Ok-load-clause-opened g c =
     let lowers : List LayerIndex = c.from_vec-lowers.result in
     let same : lowers ≡ layers = c.from_vec-lowers.ensures in
     opened told (g.S.Shelf.count c.args.shelf.now) layers g.D.Disk.tells (g.D.Disk.state c.args.disk) (g.D.Disk.state c.in-Ok-load.image.disk) (g.D.Disk.faults c.args.disk)
-    (g.D.Disk.faults c.in-Ok-load.image.disk) c.in-Ok-load.image.parts c.in-Ok.ensures.count (c.in-Ok-load.ensures.frame.0 ∙ same)
+    (g.D.Disk.faults c.in-Ok-load.image.disk) c.in-Ok-load.image.parts (stacked told layers c.in-Ok.ensures.told c.in-Ok.ensures.legal) c.in-Ok.ensures.count (c.in-Ok-load.ensures.frame.0 ∙ same)
     (c.in-Ok-load.ensures.starts told (subst (λ (l : List LayerIndex). IfSome told (λ files. AreLayersOf files l)) (sym same) (told-layers-of told layers c.in-Ok.ensures.told)))
 
 pub returns-in-Err-load-clause-refused : goal.returns-in-Err-load-clause-refused
