@@ -134,7 +134,7 @@ clear-memory command before now disk disk_now refused.Memory counted clear cause
 clear-memory command before now disk disk_now refused.SourceFault counted clear cause = absurd (let calm = clear.calm.source in omega (arith, calm, cause.1))
 clear-memory command before now disk disk_now refused.SinkFault counted clear cause = absurd (let calm = clear.calm.sink in omega (arith, calm, cause.0))
 clear-memory command before now disk disk_now refused.ShelfFault counted clear cause = absurd (let calm = clear.calm.shelf in omega (arith, calm, cause.0))
-clear-memory command before now disk disk_now refused.DiskFault counted clear cause = absurd (let calm = clear.steady in omega (arith, calm, cause.0))
+clear-memory command before now disk disk_now refused.DiskFault counted clear cause = absurd (let calm = clear.steady in let rose = cause.rose in omega (arith, calm, rose))
 clear-memory command before now disk disk_now refused.TooLong counted clear ((at, is), long, untouched) =
     let ready = subst (λ (c : Command). IsReady c before.left clear.files clear.layers disk) is clear.ready in
     let here : 33554432 < length ready.0 = IfSome-at before.left (λ all. 33554432 < length all) ready.0 ready.1 long in

@@ -1,10 +1,9 @@
 -- Making an image over the layers of a shelf.
 use Rattle.std.proofs.Common.{◌≡◌, ℕ, ◌<◌, ◌≤◌, Bool, true, false, IsTrue, List, [], ◌∷◌, length, map, refl, sym, ap, ◌∙◌, subst, arith, All, inl, inr}
-use Rattle.std.specs.Prelude.{Option, Some, None, IfSome, ◌≢◌, slice_get, ◌⊎◌, Result, Ok, Err, OnOk, IfErr}
+use Rattle.std.specs.Prelude.{Option, Some, None, IfSome, ◌≢◌, slice_get, ◌⊎◌, Result, Ok, Err, OnOk, OnErr, IfErr}
 use Rattle.std.specs.Io.KnownBytes.{Appends, Keeps}
 use Rattle.std.proofs.KnownBytes.{Keeps-refl}
 use Rattle.byte_ports.specs.Ports.{AppendsFront}
-use Rattle.byte_ports.proofs.Chains.{AppendsFront-none}
 use Rattle.std.proofs.lemmas.List.{length-map}
 use Rattle.std.proofs.lemmas.List.Elements.{All-head}
 use Rattle.block_disk.specs.DiskState.{DiskState, Leaves}
@@ -30,8 +29,8 @@ use Rattle.overlay_tool.specs.Causes.{Ports}
 use Rattle.overlay_tool.specs.Flattening.{AreTold}
 use Rattle.overlay_tool.specs.Prints.{sectors_of}
 use Rattle.overlay_tool.specs.Images.{DiskPort, AreStackedFiles, IsSizeFor, Opens, Does, Began}
-use Rattle.overlay_tool.specs.ImageCauses.{Untouched, HasSize, ReachesDisk, HaveOtherSize, HaveOwnSize, ImageCause}
-use Rattle.overlay_tool.specs.ImageSteps.{ImagePort, Stands, disk_of, IsMade, IsOtherSize, SizeCause, MakeCause, LineCause, create_refused_as}
+use Rattle.overlay_tool.specs.ImageCauses.{Untouched, HasSize, FailsToMake, DiskFailed, HaveOtherSize, HaveOwnSize, ImageCause}
+use Rattle.overlay_tool.specs.ImageSteps.{ImagePort, Stands, disk_of, IsMade, IsOtherSize, SizeCause, MakeCause, create_refused_as}
 use Rattle.overlay_tool.proofs.Pieces.{IfSome-at, IfSome-each, length_told}
 use Rattle.overlay_tool.proofs.ToldLayers.{layers_of, told_layers, told_heads}
 use Rattle.overlay_tool.proofs.ShelfCommands.{legal_first}
@@ -164,37 +163,40 @@ module _ (asked : Option ℕ) (before now : Ports) (disk : DiskPort) (new : Imag
     prints = record { text = created_line n before.count; is = line-is; front = front };
   }
 
-  pub create-refused : (sink : ℕ) → before.sink_faults ≤ sink → (refusal : Refusal) → LineCause (created_line n before.count) sink now.sink_faults before.written now.written refusal
-      → ImageCause (Create asked) before now disk (disk_of new) refusal
-  create-refused sink later refused.Memory keeps = inr (inl (create-began (AppendsFront-none before.written now.written (created_line n before.count) keeps)))
-  create-refused sink later refused.SinkFault (rose, front) = (omega (arith, later, rose), create-began front)
-  create-refused sink later other cause = absurd cause
-
   pub create-done : (r : Result (Unit {0}) Refusal) → (IsTrue new.tells → Leaves new.state new.state.seen) → OnOk r (Appends before.written now.written (created_line n before.count))
       → OnOk r (Does (Create asked) before now disk (disk_of new))
   create-done (Ok value) stay written = create-does stay written
   create-done (Err refusal) stay written = tt
 
-  pub create-failed : (r : Result (Unit {0}) Refusal) (sink : ℕ) → before.sink_faults ≤ sink → IfErr r (LineCause (created_line n before.count) sink now.sink_faults before.written now.written)
-      → IfErr r (ImageCause (Create asked) before now disk (disk_of new))
-  create-failed (Ok value) sink later cause = tt
-  create-failed (Err refusal) sink later cause = create-refused sink later refusal cause
+  pub create-failed : (r : Result (Unit {0}) Refusal) → IfErr r (λ refusal. refusal ≡ refused.SinkFault) → OnErr r (before.sink_faults < now.sink_faults)
+      → OnErr r (AppendsFront before.written now.written (created_line n before.count)) → IfErr r (ImageCause (Create asked) before now disk (disk_of new))
+  unfolding create-began
+  create-failed (Ok value) is rose front = tt
+  create-failed (Err refusal) is rose front =
+      subst (λ (x : Refusal). ImageCause (Create asked) before now disk (disk_of new) x) (sym is) (rose, record { began = create-began front; all = refl })
 
-reaches : (asked : Option ℕ) (before : Ports) → HasSize asked before.files before.count → AreStackedFiles before.files → ReachesDisk (Create asked) before
-reaches asked before size are = record {
+disk-failed : (asked : Option ℕ) (before now : Ports) (disk disk_now : DiskPort) → disk.faults < disk_now.faults → HasSize asked before.files before.count → AreStackedFiles before.files
+    → Keeps before.written now.written → Untouched before now disk disk_now ⊎ FailsToMake (Create asked) before now disk ⊎ Began (Create asked) before now disk disk_now
+    → DiskFailed (Create asked) before now disk disk_now
+disk-failed asked before now disk disk_now rose size are keeps stands = record {
+  rose = rose;
   fed = ([], refl);
   stacked = are;
   size = λ other is. subst (λ (o : Option ℕ). HasSize o before.files before.count) (let e : asked ≡ other = cc in e) size;
+  silent = inr keeps;
+  stands = stands;
 }
 
 -- no image was made
 pub make-failed : (asked : Option ℕ) (before now : Ports) (disk disk_now : DiskPort) → now.written ≡ before.written → (refusal : Refusal)
     → MakeCause asked before.files before.count before.shelf_faults now.shelf_faults disk disk_now refusal → ImageCause (Create asked) before now disk disk_now refusal
 make-failed asked before now disk disk_now same refused.Memory cause = inl (untouched before now disk disk_now same cause)
-make-failed asked before now disk disk_now same refused.DiskFault (rose, size, are, stands) = elim stands [
-  | inl quiet ↦ (rose, reaches asked before size are, inl (untouched before now disk disk_now same quiet))
-  | inr none ↦ (rose, reaches asked before size are, inr (inl ((asked, refl), none, keeps before.written now.written same)))
-]
+make-failed asked before now disk disk_now same refused.DiskFault (rose, size, are, stands) =
+    let silent : Keeps before.written now.written = keeps before.written now.written same in
+    disk-failed asked before now disk disk_now rose size are silent (elim stands [
+      | inl quiet ↦ inl (untouched before now disk disk_now same quiet)
+      | inr none ↦ inr (inl ((asked, refl), none, silent))
+    ])
 make-failed asked before now disk disk_now same refused.ShelfFault cause = (cause.0, ([], refl), inl (untouched before now disk disk_now same cause.1))
 make-failed asked before now disk disk_now same (refused.Layer number reason) cause = (([], refl), cause.0, untouched before now disk disk_now same cause.1)
 make-failed asked before now disk disk_now same (refused.Stack reason) cause = (([], refl), cause.0, cause.1, untouched before now disk disk_now same cause.2)

@@ -1,5 +1,5 @@
 -- An image that was opened or made over the layers of a shelf.
-use Rattle.std.proofs.Common.{◌≡◌, ℕ, ◌<◌, Bool, IsTrue, List, [], ◌∷◌, length, refl, sym, ap, ◌∙◌, subst, arith, inl}
+use Rattle.std.proofs.Common.{◌≡◌, ℕ, ◌<◌, Bool, IsTrue, List, [], ◌∷◌, length, refl, sym, ap, ◌∙◌, subst, arith, inl, inr}
 use Rattle.std.specs.Prelude.{Option, IfSome}
 use Rattle.block_disk.specs.DiskState.{DiskState}
 use Rattle.flat_image.specs.declared.base.Base.{Base}
@@ -15,7 +15,7 @@ use Rattle.image_core.specs.Opening.{lowers_from}
 use Rattle.image_core.proofs.SheetsRead.{layers-length}
 use Rattle.overlay_tool.specs.Flattening.{AreTold}
 use Rattle.overlay_tool.specs.Images.{DiskPort, AreStackedFiles, LiesOver, Takes}
-use Rattle.overlay_tool.specs.ImageCauses.{IsCreate, ReachesDisk, Untouched, ImageCause}
+use Rattle.overlay_tool.specs.ImageCauses.{IsCreate, Untouched, ImageCause}
 use Rattle.overlay_tool.specs.declared.words.Command.{Command}
 use Rattle.overlay_tool.specs.declared.words.Command.TheVariants.{Create}
 use Rattle.overlay_tool.specs.declared.refusal.Refusal.{Refusal}
@@ -82,7 +82,7 @@ pub open-failed : (command : Command) (bytes : List ℕ) (before now : Ports) (d
     → ImageCause command before now disk disk_now refusal
 open-failed command bytes before now disk disk_now other takes same refused.Memory cause = inl same
 open-failed command bytes before now disk disk_now other takes same refused.DiskFault (rose, are) =
-    (rose, record { fed = (bytes, takes); stacked = are; size = λ asked is. absurd (other (asked, is)) }, inl same)
+    record { rose = rose; fed = (bytes, takes); stacked = are; size = λ asked is. absurd (other (asked, is)); silent = inr same.sink; stands = inl same }
 open-failed command bytes before now disk disk_now other takes same refused.ShelfFault cause = (cause, (bytes, takes), inl same)
 open-failed command bytes before now disk disk_now other takes same (refused.Layer number fault) cause = ((bytes, takes), cause, same)
 open-failed command bytes before now disk disk_now other takes same (refused.Stack fault) cause = ((bytes, takes), cause.0, cause.1, same)

@@ -10,7 +10,7 @@ use Rattle.overlay_tool.specs.declared.refusal.Refusal.{Refusal}
 use Rattle.overlay_tool.specs.declared.refusal.Refusal.TheVariants as refused
 use Rattle.overlay_tool.specs.Causes.{Ports}
 use Rattle.overlay_tool.specs.Images.{DiskPort, Opens, PrintsFront, Does, Began, IsBegun}
-use Rattle.overlay_tool.specs.ImageCauses.{ReachesDisk, ImageCause}
+use Rattle.overlay_tool.specs.ImageCauses.{OpenedOnly, ImageCause}
 use Rattle.overlay_tool.specs.ImageSteps.{ImagePort, Stands, disk_of, Adds, fault, WritesSectors, WritesFront, ReadCause}
 use Rattle.overlay_tool.proofs.Answered.{ok-both, err-both}
 use Rattle.overlay_tool.proofs.Pieces.{IfSome-at, IfSome-each}
@@ -69,25 +69,39 @@ module _ (at count : ℕ) (before now : Ports) (disk : DiskPort) (old new : Imag
     prints = read-front front;
   }
 
-  reaches : ReachesDisk (Read at count) before
-  reaches = record { fed = ([], opens.takes); stacked = opens.over.stacked; size = λ asked is. absurd (cc) }
-
   none-begun : IsBegun [] disk.faults new.faults []
   none-begun = record { front = []; starts = record { rest = []; is = refl }; is = inl refl }
 
   fault-begun : disk.faults < new.faults → IsBegun [] disk.faults new.faults fault
   fault-begun rose = record { front = []; starts = record { rest = []; is = refl }; is = inr (rose, refl) }
 
+  opened-only : Adds [] old new → WritesFront old before.files at count before.written now.written → OpenedOnly (Read at count) before now disk (disk_of new)
+  unfolding read-began
+  opened-only adds front = record {
+    opened = λ (asked, is). cc;
+    began = read-began [] none-begun adds front;
+    none = refl;
+    silent = inl (at, count, refl);
+  }
+
   pub read-refused : (shelf sink : ℕ) → disk.faults ≤ old.faults → before.shelf_faults ≤ shelf → before.sink_faults ≤ sink → WritesFront old before.files at count before.written now.written
       → (refusal : Refusal) → ReadCause old new shelf now.shelf_faults sink now.sink_faults refusal → ImageCause (Read at count) before now disk (disk_of new) refusal
-  read-refused shelf sink later shelf_later sink_later front refused.Memory cause = inr (inl (read-began [] none-begun cause front))
+  unfolding read-began
+  read-refused shelf sink later shelf_later sink_later front refused.Memory cause = inr (inl (opened-only cause front))
   read-refused shelf sink later shelf_later sink_later front refused.DiskFault cause =
       let rose : disk.faults < new.faults = omega (arith, later, cause.0) in
-      (rose, reaches, inr (inr (read-began fault (fault-begun rose) cause.1 front)))
+      record {
+        rose = rose;
+        fed = ([], opens.takes);
+        stacked = opens.over.stacked;
+        size = λ asked is. absurd (cc);
+        silent = inl (at, count, refl);
+        stands = inr (inr (read-began fault (fault-begun rose) cause.1 front));
+      }
   read-refused shelf sink later shelf_later sink_later front refused.ShelfFault cause =
-      (omega (arith, shelf_later, cause.0), ([], opens.takes), inr ((at, count, refl), read-began [] none-begun cause.1 front))
+      (omega (arith, shelf_later, cause.0), ([], opens.takes), inr ((at, count, refl), opened-only cause.1 front))
   read-refused shelf sink later shelf_later sink_later front refused.SinkFault cause =
-      (omega (arith, sink_later, cause.0), read-began [] none-begun cause.1 front)
+      (omega (arith, sink_later, cause.0), record { began = read-began [] none-begun cause.1 front; all = refl })
   read-refused shelf sink later shelf_later sink_later front other cause = absurd cause
 
   pub read-done : (r : Result (Unit {0}) Refusal) → (IsTrue new.tells → Leaves new.state new.state.seen) → OnOk r (Adds [] old new)

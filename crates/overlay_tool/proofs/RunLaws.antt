@@ -44,24 +44,26 @@ image-memory command before now disk disk_now refused.OutOfRange cause = inl cau
 image-memory command before now disk disk_now (refused.Full rows sectors) (full, keeps) =
     let line = some-line command before disk full.bytes full.base full.change full.asked in
     inr (inl (record {
-      bytes = full.bytes;
-      base = full.base;
-      opens = full.opens;
-      within = full.within;
-      history = [];
-      begun = record { front = []; starts = record { rest = acts_of command full.bytes; is = refl }; is = inl refl };
-      crash = full.crash;
-      prints = record { text = line.0; is = line.1; front = AppendsFront-none before.written now.written line.0 keeps };
+      opened = λ (asked, is). let none : None ≡ Some full.change = sym (ap (λ (c : Command). act_of c full.bytes) is) ∙ full.asked in cc;
+      began = record {
+        bytes = full.bytes;
+        base = full.base;
+        opens = full.opens;
+        within = full.within;
+        history = [];
+        begun = record { front = []; starts = record { rest = acts_of command full.bytes; is = refl }; is = inl refl };
+        crash = full.crash;
+        prints = record { text = line.0; is = line.1; front = AppendsFront-none before.written now.written line.0 keeps };
+      };
+      none = refl;
+      silent = inr keeps;
     }))
-image-memory command before now disk disk_now refused.DiskFault (rose, reaches, stands) = elim stands [
-  | inl untouched ↦ inl untouched
-  | inr further ↦ elim further [ inl failed ↦ inr (inr (rose, reaches, failed)) | inr began ↦ inr (inl began) ]
-]
+image-memory command before now disk disk_now refused.DiskFault cause = inr (inr (inl cause))
 image-memory command before now disk disk_now refused.ShelfFault (rose, fed, stands) = elim stands [
   | inl untouched ↦ inl untouched
-  | inr began ↦ inr (inl began.1)
+  | inr opened ↦ inr (inl opened.1)
 ]
-image-memory command before now disk disk_now refused.SinkFault cause = inr (inl cause.1)
+image-memory command before now disk disk_now refused.SinkFault cause = inr (inr (inr cause))
 image-memory command before now disk disk_now refused.Memory cause = cause
 image-memory command before now disk disk_now other cause = absurd cause
 

@@ -13,11 +13,12 @@ use Rattle.flat_image.specs.History as history
 use Rattle.flat_image.specs.History.{History, kept, IsOver, rows_taken, sectors_taken}
 use Rattle.image_core.specs.Shows.{Shows}
 use Rattle.overlay_tool.specs.declared.words.Command.{Command}
+use Rattle.overlay_tool.specs.declared.words.Command.TheVariants.{Create}
 use Rattle.overlay_tool.specs.declared.refusal.Refusal.{Refusal}
 use Rattle.overlay_tool.specs.declared.refusal.Refusal.TheVariants as refused
 use Rattle.overlay_tool.specs.Causes.{Ports}
 use Rattle.overlay_tool.specs.Images.{DiskPort, Opens, IsPrinted, Does, Began, IsBegun, act_of, kept_act, acts_of, reach_of}
-use Rattle.overlay_tool.specs.ImageCauses.{ReachesDisk, ImageCause}
+use Rattle.overlay_tool.specs.ImageCauses.{ImageCause}
 use Rattle.overlay_tool.specs.ImageSteps.{ImagePort, Stands, disk_of, Adds, fault, ChangeCause, TellCause}
 use Rattle.overlay_tool.proofs.Answered.{ok-both}
 use Rattle.overlay_tool.proofs.WithoutReads.{IsChange, shows-kept}
@@ -26,7 +27,7 @@ use Rattle.overlay_tool.proofs.ImageLaws.{leaves-acts, holds-of, rows-are, fille
 -- the change or its flush was refused
 pub tell-changed : (change : Act) (line : List ℕ) (old new : ImagePort) (sink : ℕ) (written : Option (List ℕ)) (refusal : Refusal) → ChangeCause change old new refusal
     → TellCause change line old new sink sink written written refusal
-tell-changed change line old new sink written refused.Memory cause = (inl cause, Keeps-refl written)
+tell-changed change line old new sink written refused.Memory cause = (cause, Keeps-refl written)
 tell-changed change line old new sink written refused.DiskFault cause = (cause, Keeps-refl written)
 tell-changed change line old new sink written (refused.Full rows sectors) cause = (cause, Keeps-refl written)
 tell-changed change line old new sink written other cause = absurd cause
@@ -72,12 +73,8 @@ module _ (command : Command) (bytes line : List ℕ) (change : Act) (before now 
     prints = record { text = line; is = printed; front = front };
   }
 
-  reaches : ReachesDisk command before
-  reaches = record {
-    fed = (bytes, opens.takes);
-    stacked = opens.over.stacked;
-    size = λ wanted is. absurd (let none : None ≡ Some change = sym (ap (λ (c : Command). act_of c bytes) is) ∙ asked in cc);
-  }
+  not-create : (wanted : Option ℕ) → command ≡ Create wanted → ⊥
+  not-create wanted is = let none : None ≡ Some change = sym (ap (λ (c : Command). act_of c bytes) is) ∙ asked in cc
 
   none-begun : IsBegun (acts_of command bytes) disk.faults new.faults []
   none-begun = record { front = []; starts = record { rest = acts_of command bytes; is = refl }; is = inl refl }
@@ -90,14 +87,23 @@ module _ (command : Command) (bytes line : List ℕ) (change : Act) (before now 
 
   pub change-refused : (sink : ℕ) → disk.faults ≤ old.faults → before.sink_faults ≤ sink → (refusal : Refusal)
       → TellCause change line old new sink now.sink_faults before.written now.written refusal → ImageCause command before now disk (disk_of new) refusal
-  change-refused sink later sink_later refused.Memory (adds, keeps) =
-      inr (inl (elim adds [
-        | inl none ↦ change-began [] none-begun none (AppendsFront-none before.written now.written line keeps)
-        | inr all ↦ change-began (kept_act (Some change)) all-begun all (AppendsFront-none before.written now.written line keeps)
-      ]))
+  unfolding change-began
+  change-refused sink later sink_later refused.Memory (adds, keeps) = inr (inl (record {
+    opened = λ (wanted, is). not-create wanted is;
+    began = change-began [] none-begun adds (AppendsFront-none before.written now.written line keeps);
+    none = refl;
+    silent = inr keeps;
+  }))
   change-refused sink later sink_later refused.DiskFault (cause, keeps) =
       let rose : disk.faults < new.faults = omega (arith, later, cause.0) in
-      (rose, reaches, inr (inr (change-began (cause.1.0 ++ fault) (fault-begun cause.1.0 cause.1.1 rose) cause.1.2 (AppendsFront-none before.written now.written line keeps))))
+      record {
+        rose = rose;
+        fed = (bytes, opens.takes);
+        stacked = opens.over.stacked;
+        size = λ wanted is. absurd (not-create wanted is);
+        silent = inr keeps;
+        stands = inr (inr (change-began (cause.1.0 ++ fault) (fault-begun cause.1.0 cause.1.1 rose) cause.1.2 (AppendsFront-none before.written now.written line keeps)));
+      }
   change-refused sink later sink_later (refused.Full rows sectors) (cause, keeps) =
       let r : rows ≡ base.rows = cause.rows_are ∙ rows-are old base stands in
       let n : sectors ≡ base.filled = cause.sectors_are ∙ filled-is old base stands in (
@@ -117,7 +123,7 @@ module _ (command : Command) (bytes line : List ℕ) (change : Act) (before now 
         keeps,
       )
   change-refused sink later sink_later refused.SinkFault (rose, adds, front) =
-      (omega (arith, sink_later, rose), change-began (kept_act (Some change)) all-begun adds front)
+      (omega (arith, sink_later, rose), record { began = change-began (kept_act (Some change)) all-begun adds front; all = same-acts })
   change-refused sink later sink_later other cause = absurd cause
 
   pub change-done : (r : Result (Unit {0}) Refusal) → (IsTrue new.tells → Leaves new.state new.state.seen) → OnOk r (Adds (kept_act (Some change)) old new)

@@ -20,7 +20,7 @@ use Rattle.overlay_tool.specs.declared.refusal.Refusal.{Refusal}
 use Rattle.overlay_tool.specs.declared.refusal.Refusal.TheVariants as refused
 use Rattle.overlay_tool.specs.Prints.{LayerSheet, AreLayers, heads_of, sectors_of}
 use Rattle.overlay_tool.specs.Causes.{Ports, IsOfImage, StopsAt}
-use Rattle.overlay_tool.specs.Images.{DiskPort, Takes, act_of, reach_of, AreStackedFiles, Opens, LeavesOf, Began}
+use Rattle.overlay_tool.specs.Images.{DiskPort, Takes, act_of, acts_of, reach_of, AreStackedFiles, Opens, LeavesOf, Began}
 
 -- nothing was written, and the disk is as it was
 pub record Untouched (before now : Ports) (disk disk_now : DiskPort) : Type 0 where
@@ -53,12 +53,6 @@ HaveOwnSize files sectors = (layers : List LayerSheet) × AreLayers files layers
 abbrev pub HasSize : Option ℕ → Option (List (List ℕ)) → ℕ → Type 0
 HasSize None told count = 1 ≤ count
 HasSize (Some sectors) told count = IfSome told (λ files. HaveOwnSize files sectors)
-
--- what comes before the disk is as it should be: the source, the shelf's layers, their stack, and a new image's size
-pub record ReachesDisk (command : Command) (before : Ports) : Type 0 where
-  pub fed : IsFed command before
-  pub stacked : AreStackedFiles before.files
-  pub size : (asked : Option ℕ) → command ≡ Create asked → HasSize asked before.files before.count
 
 -- layers in memory, read of the shelf's files
 abbrev pub AreReadOf : Option (List (List ℕ)) → List LayerIndex → Type 0
@@ -97,7 +91,29 @@ abbrev pub FailsToMake : Command → Ports → Ports → DiskPort → Type 0
 FailsToMake command before now disk =
     IsCreate command × (IsTrue disk.tells → mark_of (disk.state.seen manifest_file) ≡ None) × Keeps before.written now.written
 
--- the cause of a refusal of an image command, and what stands after it
+-- The disk failed when source, layers, stack and a new image's size had been in order. Nothing was written but by a read.
+pub record DiskFailed (command : Command) (before now : Ports) (disk disk_now : DiskPort) : Type 0 where
+  pub rose : disk.faults < disk_now.faults
+  pub fed : IsFed command before
+  pub stacked : AreStackedFiles before.files
+  pub size : (asked : Option ℕ) → command ≡ Create asked → HasSize asked before.files before.count
+  pub silent : IsRead command ⊎ Keeps before.written now.written
+  pub stands : Untouched before now disk disk_now ⊎ FailsToMake command before now disk ⊎ Began command before now disk disk_now
+
+-- an image was opened, and nothing was done to it; nothing was written but by a read
+pub record OpenedOnly (command : Command) (before now : Ports) (disk disk_now : DiskPort) : Type 0 where
+  pub opened : IsCreate command → ⊥
+  pub began : Began command before now disk disk_now
+  pub none : began.history ≡ []
+  pub silent : IsRead command ⊎ Keeps before.written now.written
+
+-- all acts of the command were done, and a front of what it prints was written
+pub record ActsAll (command : Command) (before now : Ports) (disk disk_now : DiskPort) : Type 0 where
+  pub began : Began command before now disk disk_now
+  pub all : began.history ≡ acts_of command began.bytes
+
+-- the cause of a refusal of an image command, and what stands after it; where a line finds no memory, it tells of that in place
+-- of any refusal
 abbrev pub ImageCause : Command → Ports → Ports → DiskPort → DiskPort → Refusal → Type 0
 ImageCause command before now disk disk_now refused.SourceFault =
     IsWrite command × (before.source_faults < now.source_faults) × Untouched before now disk disk_now
@@ -124,15 +140,13 @@ ImageCause command before now disk disk_now refused.OutOfRange =
     GoesPast command before disk disk_now × Untouched before now disk disk_now
 ImageCause command before now disk disk_now (refused.Full rows sectors) =
     IsFull command before disk disk_now rows sectors × Keeps before.written now.written
-ImageCause command before now disk disk_now refused.DiskFault =
-    (disk.faults < disk_now.faults) × ReachesDisk command before
-    × (Untouched before now disk disk_now ⊎ FailsToMake command before now disk ⊎ Began command before now disk disk_now)
+ImageCause command before now disk disk_now refused.DiskFault = DiskFailed command before now disk disk_now
 ImageCause command before now disk disk_now refused.ShelfFault =
     (before.shelf_faults < now.shelf_faults) × IsFed command before
-    × (Untouched before now disk disk_now ⊎ (IsRead command × Began command before now disk disk_now))
+    × (Untouched before now disk disk_now ⊎ (IsRead command × OpenedOnly command before now disk disk_now))
 ImageCause command before now disk disk_now refused.SinkFault =
-    (before.sink_faults < now.sink_faults) × Began command before now disk disk_now
+    (before.sink_faults < now.sink_faults) × ActsAll command before now disk disk_now
 ImageCause command before now disk disk_now refused.Memory =
-    Untouched before now disk disk_now ⊎ Began command before now disk disk_now
-    ⊎ ((disk.faults < disk_now.faults) × ReachesDisk command before × FailsToMake command before now disk)
+    Untouched before now disk disk_now ⊎ OpenedOnly command before now disk disk_now ⊎ DiskFailed command before now disk disk_now
+    ⊎ ((before.sink_faults < now.sink_faults) × ActsAll command before now disk disk_now)
 ImageCause command before now disk disk_now other = ⊥

@@ -148,7 +148,7 @@ disk_of image = record { tells = image.tells; state = image.state; faults = imag
 -- why a change, the flush behind it and the line that tells of it were not all done, and what was written then
 abbrev pub TellCause : Act → List ℕ → (old new : ImagePort) → (sink sink_now : ℕ) → (written written_now : Option (List ℕ)) → Refusal → Type 0
 TellCause change line old new sink sink_now written written_now refused.Memory =
-    (Adds [] old new ⊎ Adds (kept_act (Some change)) old new) × Keeps written written_now
+    Adds [] old new × Keeps written written_now
 TellCause change line old new sink sink_now written written_now refused.DiskFault =
     ChangeCause change old new refused.DiskFault × Keeps written written_now
 TellCause change line old new sink sink_now written written_now (refused.Full rows sectors) =
@@ -197,12 +197,6 @@ MakeCause asked told count shelf shelf_now disk disk_now refused.OtherSize =
 MakeCause asked told count shelf shelf_now disk disk_now refused.ImageExists =
     HasSize asked told count × AreStackedFiles told × (IsTrue disk.tells → mark_of (disk.state.seen manifest_file) ≢ None) × Quiet disk.state disk_now.state
 MakeCause asked told count shelf shelf_now disk disk_now other = ⊥
-
--- why a line was not written whole
-abbrev pub LineCause : List ℕ → (sink sink_now : ℕ) → (written written_now : Option (List ℕ)) → Refusal → Type 0
-LineCause line sink sink_now written written_now refused.Memory = Keeps written written_now
-LineCause line sink sink_now written written_now refused.SinkFault = (sink < sink_now) × AppendsFront written written_now line
-LineCause line sink sink_now written written_now other = ⊥
 
 -- what the fault of a whole read is refused as
 abbrev pub whole_cause : WholeFault → Refusal

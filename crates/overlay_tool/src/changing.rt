@@ -79,7 +79,8 @@ pub fn zero_kept<D: Disk>(image: &mut Image<D>, extent: Extent) -> Result<(), Re
     }
 }
 
-/// The same, and then the line that tells of it.
+/// Writes the sectors of an extent within the image, flushes it and tells of it. The line is made
+/// first, so that want of memory changes nothing.
 pub fn write_told<B: Sink, D: Disk>(
     alloc: Global,
     image: &mut Image<D>,
@@ -101,12 +102,13 @@ pub fn write_told<B: Sink, D: Disk>(
         (B.faults out.old) (B.faults out.new) (B.written out.old) (B.written out.new)) }
     ensures later { D.faults image.old.disk ≤ D.faults image.new.disk }
 {
+    let line = wrote_report(alloc, extent.at, extent.count as u64)?;
     write_kept(image, extent, bytes)?;
-    let line = wrote_report(alloc, extent.at as u64, extent.count as u64)?;
     write_text(line.as_bytes(), out)
 }
 
-/// The same, and then the line that tells of it.
+/// Makes the sectors of an extent within the image zeros, flushes it and tells of it. The line is made
+/// first, so that want of memory changes nothing.
 pub fn zero_told<B: Sink, D: Disk>(
     alloc: Global,
     image: &mut Image<D>,
@@ -126,7 +128,7 @@ pub fn zero_told<B: Sink, D: Disk>(
         (B.faults out.old) (B.faults out.new) (B.written out.old) (B.written out.new)) }
     ensures later { D.faults image.old.disk ≤ D.faults image.new.disk }
 {
+    let line = zeroed_report(alloc, extent.at, extent.count as u64)?;
     zero_kept(image, extent)?;
-    let line = zeroed_report(alloc, extent.at as u64, extent.count as u64)?;
     write_text(line.as_bytes(), out)
 }

@@ -7,8 +7,9 @@ ghost use Rattle.overlay_tool.specs.Causes.{TakesAtMost};
 ghost use Rattle.overlay_tool.specs.ImageCauses.{ImageCause};
 
 use crate::changing::{write_told, zero_told};
+use crate::commands::write_text;
 use crate::copying::{copy_sectors, extent_of};
-use crate::making::{make_image, print_created};
+use crate::making::make_image;
 use crate::opening::open_image;
 use crate::reading::read_sectors;
 use crate::refusal::Refusal;
@@ -167,10 +168,11 @@ pub fn create_image<B: Sink, S: Shelf, D: Disk>(
         (record { tells = D.tells; state = D.state disk; faults = D.faults disk })
         (record { tells = D.tells; state = D.state result.1; faults = D.faults result.1 })) }
 {
-    let image = match make_image(alloc, asked, shelf, disk) {
-        Ok(image) => image,
-        Err((disk, refusal)) => return (Err(refusal), disk),
-    };
-    let result = print_created(alloc, image.sectors(), shelf.count() as u64, out);
-    (result, image.into_disk())
+    match make_image(alloc, asked, shelf, disk) {
+        Ok((image, line)) => {
+            let result = write_text(line.as_bytes(), out);
+            (result, image.into_disk())
+        }
+        Err((disk, refusal)) => (Err(refusal), disk),
+    }
 }

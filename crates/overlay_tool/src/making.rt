@@ -1,19 +1,17 @@
 //! Makes an image over the layers of a shelf.
-ghost use Rattle.std.specs.Prelude.{◌≡◌, ℕ, ◌≤◌, length, IfOk, IfErr, IfSome, OnOk, MatchResult};
-ghost use Rattle.std.specs.Io.KnownBytes.{Appends};
+ghost use Rattle.std.specs.Prelude.{◌≡◌, ℕ, ◌≤◌, length, string_bytes, IfOk, IfErr, IfSome, MatchResult};
 ghost use Rattle.lsmt_header.specs.Blocks.{IsSize};
 ghost use Rattle.image_core.specs.Loading.{AreStackOrNone};
 ghost use Rattle.image_core.specs.Creating.{AreLegal};
+ghost use Rattle.image_core.specs.Parts.{parts_view};
 ghost use Rattle.overlay_tool.specs.Reports.{created_line};
 ghost use Rattle.overlay_tool.specs.Images.{IsSizeFor};
-ghost use Rattle.overlay_tool.specs.ImageSteps.{IsMade, SizeCause, MakeCause, LineCause, create_refused_as};
+ghost use Rattle.overlay_tool.specs.ImageSteps.{IsMade, SizeCause, MakeCause, create_refused_as};
 
-use crate::commands::write_text;
 use crate::refusal::Refusal;
 use crate::reports::created_report;
 use crate::stacks::read_lowers;
 use block_disk::Disk;
-use byte_ports::Sink;
 use image_core::{CreateFault, Image, LayerList};
 use layer_shelf::Shelf;
 use sealed_layer::Layer;
@@ -66,21 +64,23 @@ fn create_refusal(fault: CreateFault) -> Refusal
     }
 }
 
-/// Makes an image on the disk over the shelf's layers.
+/// Makes an image on the disk over the shelf's layers. It answers the line that tells of it too, which
+/// is made first, so that want of memory changes nothing.
 pub fn make_image<S: Shelf, D: Disk>(
     alloc: Global,
     asked: Option<u64>,
     shelf: &mut S,
     disk: D,
-) -> Result<Image<D>, (D, Refusal)>
+) -> Result<(Image<D>, String), (D, Refusal)>
     requires { IfSome asked IsSize }
-    ensures made { IfOk result (λ image. IsMade asked (S.files shelf.old) (S.count shelf.old)
+    ensures made { IfOk result (λ made. IsMade asked (S.files shelf.old) (S.count shelf.old)
         (record { tells = D.tells; state = D.state disk; faults = D.faults disk })
-        (record { tells = D.tells; state = D.state image.disk; faults = D.faults image.disk; parts = image.parts })) }
+        (record { tells = D.tells; state = D.state made.0.disk; faults = D.faults made.0.disk; parts = made.0.parts })) }
+    ensures told { IfOk result (λ made. string_bytes made.1 ≡ created_line (parts_view made.0.parts).sectors (S.count shelf.old)) }
     ensures refused { IfErr result (λ refusal. MakeCause asked (S.files shelf.old) (S.count shelf.old) (S.faults shelf.old) (S.faults shelf.new)
         (record { tells = D.tells; state = D.state disk; faults = D.faults disk })
         (record { tells = D.tells; state = D.state refusal.0; faults = D.faults refusal.0 }) refusal.1) }
-    ensures later { MatchResult result (λ image. D.faults disk ≤ D.faults image.disk) (λ refusal. D.faults disk ≤ D.faults refusal.0) }
+    ensures later { MatchResult result (λ made. D.faults disk ≤ D.faults made.0.disk) (λ refusal. D.faults disk ≤ D.faults refusal.0) }
     ensures shelf_later { S.faults shelf.old ≤ S.faults shelf.new }
     ensures same_files { S.files shelf.new ≡ S.files shelf.old }
     ensures same_count { S.count shelf.new ≡ S.count shelf.old }
@@ -93,22 +93,12 @@ pub fn make_image<S: Shelf, D: Disk>(
         Ok(sectors) => sectors,
         Err(refusal) => return Err((disk, refusal)),
     };
+    let line = match created_report(alloc, sectors, shelf.count() as u64) {
+        Ok(line) => line,
+        Err(_) => return Err((disk, Refusal::Memory)),
+    };
     match Image::create(alloc, disk, LayerList::from_vec(layers), sectors) {
-        Ok(image) => Ok(image),
+        Ok(image) => Ok((image, line)),
         Err((disk, fault)) => Err((disk, create_refusal(fault))),
     }
-}
-
-/// Tells that an image was made.
-pub fn print_created<B: Sink>(
-    alloc: Global,
-    sectors: u64,
-    layers: u64,
-    out: &mut B,
-) -> Result<(), Refusal>
-    ensures told { OnOk result (Appends (B.written out.old) (B.written out.new) (created_line sectors layers)) }
-    ensures refused { IfErr result (LineCause (created_line sectors layers) (B.faults out.old) (B.faults out.new) (B.written out.old) (B.written out.new)) }
-{
-    let line = created_report(alloc, sectors, layers)?;
-    write_text(line.as_bytes(), out)
 }
