@@ -66,13 +66,13 @@ same-bytes left bytes other e told = IfSome-at left (λ all. other ≡ all) byte
 past-clear : (command : Command) (before now : Ports) (disk disk_now : DiskPort) → IsClear command before now disk disk_now → GoesPast command before disk disk_now → ⊥
 past-clear (Create asked) before now disk disk_now clear past = let p = past.past in omega (arith, p)
 past-clear (Read at count) before now disk disk_now clear past =
-    not-past (Read at count) clear.files disk [] clear.ready before.files before.count clear.told clear.tells past.base past.opens.over past.opens.starts past.past
+    not-past (Read at count) clear.files disk [] clear.ready before.files before.count clear.told clear.tells past.base past.opens.over past.opens.starts.shows past.past
 past-clear (Zero at count) before now disk disk_now clear past =
-    not-past (Zero at count) clear.files disk [] clear.ready before.files before.count clear.told clear.tells past.base past.opens.over past.opens.starts past.past
+    not-past (Zero at count) clear.files disk [] clear.ready before.files before.count clear.told clear.tells past.base past.opens.over past.opens.starts.shows past.past
 past-clear (Write at) before now disk disk_now clear past =
     let ready = clear.ready in
     let same : past.bytes ≡ ready.0 = same-bytes before.left ready.0 past.bytes ready.1 past.opens.takes.0 in
-    not-past (Write at) clear.files disk ready.0 ready.3 before.files before.count clear.told clear.tells past.base past.opens.over past.opens.starts
+    not-past (Write at) clear.files disk ready.0 ready.3 before.files before.count clear.told clear.tells past.base past.opens.over past.opens.starts.shows
     (subst (λ (b : List ℕ). past.base.sectors < at + sector_count b) same past.past)
 past-clear other before now disk disk_now clear past = clear.ready
 
@@ -80,11 +80,11 @@ full-clear : (command : Command) (before now : Ports) (disk disk_now : DiskPort)
 full-clear (Create asked) before now disk disk_now rows sectors clear full = let e : None ≡ Some full.change = full.asked in cc
 full-clear (Read at count) before now disk disk_now rows sectors clear full = let e : None ≡ Some full.change = full.asked in cc
 full-clear (Zero at count) before now disk disk_now rows sectors clear full =
-    not-full (Zero at count) clear.files disk [] clear.ready before.files before.count clear.told clear.tells full.base full.opens.over full.opens.starts full.change full.asked full.over
+    not-full (Zero at count) clear.files disk [] clear.ready before.files before.count clear.told clear.tells full.base full.opens.over full.opens.starts.shows full.change full.asked full.over
 full-clear (Write at) before now disk disk_now rows sectors clear full =
     let ready = clear.ready in
     let same : full.bytes ≡ ready.0 = same-bytes before.left ready.0 full.bytes ready.1 full.opens.takes.0 in
-    not-full (Write at) clear.files disk ready.0 ready.3 before.files before.count clear.told clear.tells full.base full.opens.over full.opens.starts full.change
+    not-full (Write at) clear.files disk ready.0 ready.3 before.files before.count clear.told clear.tells full.base full.opens.over full.opens.starts.shows full.change
     (subst (λ (b : List ℕ). act_of (Write at) b ≡ Some full.change) same full.asked) full.over
 full-clear other before now disk disk_now rows sectors clear full = clear.ready
 

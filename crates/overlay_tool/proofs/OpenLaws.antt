@@ -61,7 +61,7 @@ pub opened : (told : Option (List (List ℕ))) (count : ℕ) (layers : List Laye
 opened told count layers tells s s' f f' p are long same is = (
   is.base,
   lies-over told count layers tells s' f' p is.base are long same (is.starts.lowers_are ∙ ap (lowers_from told) same) is.stands,
-  is.starts.told,
+  record { shows = is.starts.told; unworn = is.unworn; none_done = is.none_done; none_frozen = is.none_frozen },
   is.stands,
 )
 

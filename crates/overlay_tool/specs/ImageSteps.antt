@@ -23,13 +23,12 @@ use Rattle.image_core.specs.declared.whole.WholeFault.TheVariants as whole
 use Rattle.image_core.specs.declared.loading.LoadFault.{LoadFault}
 use Rattle.image_core.specs.declared.loading.LoadFault.TheVariants as load
 use Rattle.image_core.specs.declared.parts.Parts.{Parts}
-use Rattle.image_core.specs.Shows.{Shows}
 use Rattle.image_core.specs.Parts.{parts_view, ImageStands}
 use Rattle.overlay_tool.specs.declared.refusal.Refusal.{Refusal}
 use Rattle.overlay_tool.specs.declared.refusal.Refusal.TheVariants as refused
 use Rattle.overlay_tool.specs.Prints.{LayerSheet, AreLayers, heads_of}
 use Rattle.overlay_tool.specs.Causes.{StopsAt}
-use Rattle.overlay_tool.specs.Images.{DiskPort, AreStackedFiles, LiesOver, IsNew, kept_act}
+use Rattle.overlay_tool.specs.Images.{DiskPort, AreStackedFiles, LiesOver, IsNew, IsFound, kept_act}
 use Rattle.overlay_tool.specs.ImageCauses.{HaveOtherSize, HasSize, HoldsNone}
 
 -- an image in memory with its disk, at one moment
@@ -47,10 +46,10 @@ Stands image base history = ImageStands image.tells image.state image.faults ima
 abbrev pub size_of : ImagePort → ℕ
 size_of image = (parts_view image.parts).sectors
 
--- an image that was opened: it stands for nothing done over a base that the disk's files show, over the shelf's layers
+-- an image that was opened: it stands for nothing done over a base that is found on the disk, over the shelf's layers
 abbrev pub IsOpened : Option (List (List ℕ)) → ℕ → DiskPort → ImagePort → Type 0
 IsOpened told count disk image =
-    (base : Base) × LiesOver told count base × (IsTrue disk.tells → Shows disk.state.seen base) × Stands image base []
+    (base : Base) × LiesOver told count base × IsFound disk base × Stands image base []
 
 -- why no image was opened
 abbrev pub OpenCause : Option (List (List ℕ)) → ℕ → (shelf shelf_now : ℕ) → (disk disk_now : DiskPort) → Refusal → Type 0

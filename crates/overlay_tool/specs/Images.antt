@@ -14,7 +14,7 @@ use Rattle.flat_image.specs.History as history
 use Rattle.flat_image.specs.Sectors.{sector_count}
 use Rattle.flat_image.specs.Stacks.{Legal}
 use Rattle.image_core.specs.Numbers.{manifest_file}
-use Rattle.image_core.specs.Shows.{Shows, IsSound}
+use Rattle.image_core.specs.Shows.{Shows, IsSound, IsUnworn}
 use Rattle.image_core.specs.Creating.{fresh_at}
 use Rattle.image_core.specs.Standing.{ShowsLeft}
 use Rattle.overlay_tool.specs.declared.words.Command.{Command}
@@ -83,10 +83,17 @@ pub record IsNew (asked : Option ℕ) (count : ℕ) (disk : DiskPort) (base : Ba
   pub none : IsTrue disk.tells → mark_of (disk.state.seen manifest_file) ≡ None
   pub fresh : base ≡ fresh_at base.sectors base.lowers base.faults
 
--- what a command starts from: a creation from a new image, the others from the one that the disk's files show
+-- an image without commits, which the disk's files show where it tells, with no sequence over 2^61
+pub record IsFound (disk : DiskPort) (base : Base) : Type 0 where
+  pub shows : IsTrue disk.tells → Shows disk.state.seen base
+  pub unworn : (told : IsTrue disk.tells) → IsUnworn disk.state.seen base (shows told)
+  pub none_done : base.done ≡ []
+  pub none_frozen : base.frozen ≡ None
+
+-- what a command starts from: a creation from a new image, the others from the one that is found on the disk
 abbrev pub StartsAt : Command → ℕ → DiskPort → Base → Type 0
 StartsAt (Create asked) layers disk base = IsNew asked layers disk base
-StartsAt other layers disk base = IsTrue disk.tells → Shows disk.state.seen base
+StartsAt other layers disk base = IsFound disk base
 
 -- the command took these bytes of the source, and opened, or made, the image of that base
 pub record Opens (command : Command) (before : Ports) (disk : DiskPort) (bytes : List ℕ) (base : Base) : Type 0 where
