@@ -13,17 +13,17 @@ use Rattle.top_writer.specs.declared.fault.WriteFault.TheVariants.{Full, Memory,
 use Rattle.image_core.specs.declared.parts.Parts.{Parts}
 use Rattle.image_core.specs.Parts.{parts_view, Goes, IsStanding, noted_change}
 use Rattle.overlay_tool.specs.Images.{kept_act}
-use Rattle.overlay_tool.specs.ImageSteps.{ImagePort, Adds, fault, without_reads, ChangeCause, change_refused_as}
+use Rattle.overlay_tool.specs.ImageSteps.{ImageState, Adds, fault, without_reads, ChangeCause, change_refused_as}
 use Rattle.overlay_tool.proofs.ImageAdds.{adds-none, adds-act, adds-joined}
 
 abbrev refuses : WriteFault → Result (Unit {0}) WriteFault
 refuses why = Err why
 
 module _ (tells : Bool) (s s' : DiskState) (f f' : ℕ) (p p' : Parts) where
-  abbrev old : ImagePort
+  abbrev old : ImageState
   old = record { tells = tells; state = s; faults = f; parts = p }
 
-  abbrev new : ImagePort
+  abbrev new : ImageState
   new = record { tells = tells; state = s'; faults = f'; parts = p' }
 
   pub standing-then : (change : Act) → Goes tells s s' f f' p p' (Some change) → IsStanding tells s f p → IsStanding tells s' f' p'
@@ -61,13 +61,13 @@ module _ (tells : Bool) (s s' : DiskState) (f f' : ℕ) (p p' : Parts) where
 
 -- a change, and the flush behind it
 module _ (tells : Bool) (s m s' : DiskState) (f g f' : ℕ) (p q p' : Parts) where
-  abbrev first : ImagePort
+  abbrev first : ImageState
   first = record { tells = tells; state = s; faults = f; parts = p }
 
-  abbrev middle : ImagePort
+  abbrev middle : ImageState
   middle = record { tells = tells; state = m; faults = g; parts = q }
 
-  abbrev last : ImagePort
+  abbrev last : ImageState
   last = record { tells = tells; state = s'; faults = f'; parts = p' }
 
   pub change-kept : (change : Act) → without_reads (entry 0 change ∷ []) ≡ entry 0 change ∷ [] → Goes tells s m f g p q (Some change) → Goes tells m s' g f' q p' (Some act.Flush)

@@ -20,7 +20,7 @@ use Rattle.overlay_tool.specs.declared.refusal.Refusal.TheVariants as refused
 use Rattle.image_core.specs.declared.whole.WholeFault.{WholeFault}
 use Rattle.image_core.specs.declared.whole.WholeFault.TheVariants.{Memory, DiskFault, ShelfFault}
 use Rattle.image_core.specs.Whole.{noted_whole}
-use Rattle.overlay_tool.specs.ImageSteps.{ImagePort, Stands, Adds, fault, AreSectors, WritesSectors, WritesFront, ReadCause, whole_cause}
+use Rattle.overlay_tool.specs.ImageSteps.{ImageState, Stands, Adds, fault, AreSectors, WritesSectors, WritesFront, ReadCause, whole_cause}
 use Rattle.overlay_tool.proofs.Pieces.{IfSome-at, IfSome-each}
 use Rattle.overlay_tool.proofs.WithoutReads.{reply-read}
 use Rattle.overlay_tool.proofs.ImageAdds.{adds-none, adds-act, adds-joined}
@@ -35,7 +35,7 @@ whole-refused tells s s' f f' p p' asked shelf shelf_now sink DiskFault goes dis
 whole-refused tells s s' f f' p p' asked shelf shelf_now sink ShelfFault goes disk_failed shelf_failed = (shelf_failed refl, adds-none tells s s' f f' p p' goes)
 
 -- these bytes are sectors of the image, of an extent that is said in other words
-pub are-sectors : (image : ImagePort) (told : Option (List (List ℕ))) (at' count' at count : ℕ) (bytes : List ℕ) → length bytes ≡ 512 * count → at' ≡ at → count' ≡ count
+pub are-sectors : (image : ImageState) (told : Option (List (List ℕ))) (at' count' at count : ℕ) (bytes : List ℕ) → length bytes ≡ 512 * count → at' ≡ at → count' ≡ count
     → (IsTrue image.tells → IfSome told (λ files. (base : Base) (history : History) → Stands image base history → base.lowers ≡ files → bytes ≡ reply base history at' count'))
     → AreSectors image told at count bytes
 are-sectors image told at' count' at count bytes long same_place same_count are = record {
@@ -57,7 +57,7 @@ reply-split base history at first second =
     ∙ ap (λ (rest : List (List ℕ)). bytes_of (take first (drop at image)) ++ bytes_of (take second rest)) (drop-drop at first image)
 
 -- sectors, and those behind them as they are after reads
-pub sectors-joined : (old mid : ImagePort) (told told' : Option (List (List ℕ))) (at first second : ℕ) (front back : List ℕ) → mid.tells ≡ old.tells → told' ≡ told → Adds [] old mid
+pub sectors-joined : (old mid : ImageState) (told told' : Option (List (List ℕ))) (at first second : ℕ) (front back : List ℕ) → mid.tells ≡ old.tells → told' ≡ told → Adds [] old mid
     → AreSectors old told at first front → AreSectors mid told' (at + first) second back → AreSectors old told at (first + second) (front ++ back)
 sectors-joined old mid told told' at first second front back tells_same told_same adds one two = record {
   long = let a = one.long in let b = two.long in omega (arith, length-append front back, a, b);
@@ -72,7 +72,7 @@ sectors-joined old mid told told' at first second front back tells_same told_sam
       ∙ sym (reply-split base history at first second));
 }
 
-pub writes-joined : (old mid : ImagePort) (told told' : Option (List (List ℕ))) (at first second : ℕ) (a b c : Option (List ℕ)) → mid.tells ≡ old.tells → told' ≡ told → Adds [] old mid
+pub writes-joined : (old mid : ImageState) (told told' : Option (List (List ℕ))) (at first second : ℕ) (a b c : Option (List ℕ)) → mid.tells ≡ old.tells → told' ≡ told → Adds [] old mid
     → WritesSectors old told at first a b → WritesSectors mid told' (at + first) second b c → WritesSectors old told at (first + second) a c
 writes-joined old mid told told' at first second a b c tells_same told_same adds one two = record {
   bytes = one.bytes ++ two.bytes;
@@ -80,7 +80,7 @@ writes-joined old mid told told' at first second a b c tells_same told_same adds
   written = Appends-trans a b c one.bytes two.bytes one.written two.written;
 }
 
-pub front-joined : (old mid : ImagePort) (told told' : Option (List (List ℕ))) (at first second count : ℕ) (a b c : Option (List ℕ)) → mid.tells ≡ old.tells → told' ≡ told → Adds [] old mid
+pub front-joined : (old mid : ImageState) (told told' : Option (List (List ℕ))) (at first second count : ℕ) (a b c : Option (List ℕ)) → mid.tells ≡ old.tells → told' ≡ told → Adds [] old mid
     → first + second ≤ count → WritesSectors old told at first a b → WritesFront mid told' (at + first) second b c → WritesFront old told at count a c
 front-joined old mid told told' at first second count a b c tells_same told_same adds within one two = record {
   part = first + two.part;
@@ -91,7 +91,7 @@ front-joined old mid told told' at first second count a b c tells_same told_same
 }
 
 -- reads, and then why further ones were refused
-pub cause-after : (old mid new : ImagePort) (shelf shelf_mid shelf_now sink sink_mid sink_now : ℕ) (refusal : Refusal) → Adds [] old mid → old.faults ≤ mid.faults → shelf ≤ shelf_mid → sink ≤ sink_mid
+pub cause-after : (old mid new : ImageState) (shelf shelf_mid shelf_now sink sink_mid sink_now : ℕ) (refusal : Refusal) → Adds [] old mid → old.faults ≤ mid.faults → shelf ≤ shelf_mid → sink ≤ sink_mid
     → ReadCause mid new shelf_mid shelf_now sink_mid sink_now refusal → ReadCause old new shelf shelf_now sink sink_now refusal
 cause-after old mid new shelf shelf_mid shelf_now sink sink_mid sink_now refused.Memory adds later shelf_later sink_later cause = adds-joined [] [] old mid new adds cause
 cause-after old mid new shelf shelf_mid shelf_now sink sink_mid sink_now refused.DiskFault adds later shelf_later sink_later cause =

@@ -10,14 +10,14 @@ use Rattle.flat_image.specs.Entries.{entry}
 use Rattle.flat_image.specs.History.{History}
 use Rattle.image_core.specs.declared.parts.Parts.{Parts}
 use Rattle.image_core.specs.Parts.{IsStanding, Goes}
-use Rattle.overlay_tool.specs.ImageSteps.{ImagePort, Stands, without_reads, Adds, AreSectors, WritesFront}
+use Rattle.overlay_tool.specs.ImageSteps.{ImageState, Stands, without_reads, Adds, AreSectors, WritesFront}
 use Rattle.overlay_tool.proofs.WithoutReads.{without-append}
 use Rattle.overlay_tool.proofs.Pieces.{IfSome-each}
 
-pub adds-nothing : (image : ImagePort) → Adds [] image image
+pub adds-nothing : (image : ImageState) → Adds [] image image
 adds-nothing image = record { stands = λ base history stands. ([], refl, subst (λ (h : History). Stands image base h) (sym (append-nil history)) stands) }
 
-pub adds-joined : (first second : History) (p q r : ImagePort) → Adds first p q → Adds second q r → Adds (first ++ second) p r
+pub adds-joined : (first second : History) (p q r : ImageState) → Adds first p q → Adds second q r → Adds (first ++ second) p r
 adds-joined first second p q r one two = record {
   stands = λ base history stands.
       let a = one.stands base history stands in
@@ -31,10 +31,10 @@ adds-joined first second p q r one two = record {
 -- ---- one step
 
 module _ (tells : Bool) (s s' : DiskState) (f f' : ℕ) (p p' : Parts) where
-  abbrev old : ImagePort
+  abbrev old : ImageState
   old = record { tells = tells; state = s; faults = f; parts = p }
 
-  abbrev new : ImagePort
+  abbrev new : ImageState
   new = record { tells = tells; state = s'; faults = f'; parts = p' }
 
   pub adds-none : Goes tells s s' f f' p p' None → Adds [] old new
@@ -53,13 +53,13 @@ module _ (tells : Bool) (s s' : DiskState) (f f' : ℕ) (p p' : Parts) where
 
 -- ---- sectors
 
-pub no-sectors : (image : ImagePort) (told : Option (List (List ℕ))) (at : ℕ) → AreSectors image told at 0 []
+pub no-sectors : (image : ImageState) (told : Option (List (List ℕ))) (at : ℕ) → AreSectors image told at 0 []
 no-sectors image told at = record {
   long = refl;
   are = λ tells. IfSome-each told (λ files e. λ base history stands over. refl);
 }
 
-pub none-written : (image : ImagePort) (told : Option (List (List ℕ))) (at count : ℕ) (old new : Option (List ℕ)) → Keeps old new → WritesFront image told at count old new
+pub none-written : (image : ImageState) (told : Option (List (List ℕ))) (at count : ℕ) (old new : Option (List ℕ)) → Keeps old new → WritesFront image told at count old new
 none-written image told at count old new keeps = record {
   part = 0;
   within = omega arith;

@@ -17,18 +17,18 @@ use Rattle.image_core.proofs.PartsHold.{parts-keep}
 use Rattle.image_core.proofs.StandLaws.{history-reads}
 use Rattle.image_core.proofs.SheetsRead.{layers-length}
 use Rattle.overlay_tool.specs.Images.{DiskPort, LeavesOf, Holds, LiesOver}
-use Rattle.overlay_tool.specs.ImageSteps.{ImagePort, Stands, size_of, disk_of, Adds, AreSectors}
+use Rattle.overlay_tool.specs.ImageSteps.{ImageState, Stands, size_of, disk_of, Adds, AreSectors}
 use Rattle.overlay_tool.proofs.Pieces.{IfSome-at, IfSome-each}
 use Rattle.overlay_tool.proofs.WithoutReads.{shows-without}
 
-stands-for : (image : ImagePort) (base : Base) (history : History) → Stands image base history
+stands-for : (image : ImageState) (base : Base) (history : History) → Stands image base history
     → StandsFor image.tells image.state image.faults (parts_view image.parts) base history
 stands-for image base history stands =
     keeps-stands image.tells image.state image.faults (parts_view image.parts) base history (parts-keep image.tells image.state image.faults image.parts base history stands)
 
 -- ---- an image for which nothing was done yet
 
-module _ (image : ImagePort) (base : Base) (stands : Stands image base []) where
+module _ (image : ImageState) (base : Base) (stands : Stands image base []) where
   pub size-is : size_of image ≡ base.sectors
   size-is = (stands-for image base [] stands).view.sectors
 
@@ -66,7 +66,7 @@ module _ (image : ImagePort) (base : Base) (stands : Stands image base []) where
       length-bytes_of part (All-take IsSector count (drop at picture) (All-drop IsSector at picture whole.sectors)) ∙ ap (λ n. 512 * n) (length-take-le count (drop at picture) enough)
 
   -- the acts that were done are what a crash leaves
-  pub leaves-acts : (new : ImagePort) (acts : History) → Adds acts image new → LeavesOf (disk_of new) base acts
+  pub leaves-acts : (new : ImageState) (acts : History) → Adds acts image new → LeavesOf (disk_of new) base acts
   leaves-acts new acts adds files leaves =
       let a = adds.stands base [] stands in
       subst (λ (h : History). ShowsLeft base h files) a.1 (shows-without base a.0 files ((stands-for new base a.0 a.2).crash files leaves))

@@ -30,7 +30,7 @@ use Rattle.overlay_tool.specs.Flattening.{AreTold}
 use Rattle.overlay_tool.specs.Prints.{sectors_of}
 use Rattle.overlay_tool.specs.Images.{DiskPort, AreStackedFiles, IsSizeFor, Opens, Does, Began}
 use Rattle.overlay_tool.specs.ImageCauses.{Untouched, HasSize, FailsToMake, DiskFailed, HaveOtherSize, HaveOwnSize, ImageCause}
-use Rattle.overlay_tool.specs.ImageSteps.{ImagePort, Stands, disk_of, IsMade, IsOtherSize, SizeCause, MakeCause, create_refused_as}
+use Rattle.overlay_tool.specs.ImageSteps.{ImageState, Stands, disk_of, IsMade, IsOtherSize, SizeCause, MakeCause, create_refused_as}
 use Rattle.overlay_tool.proofs.Pieces.{IfSome-at, IfSome-each, length_told}
 use Rattle.overlay_tool.proofs.ToldLayers.{layers_of, told_layers, told_heads}
 use Rattle.overlay_tool.proofs.ShelfCommands.{legal_first}
@@ -136,7 +136,7 @@ keeps old new same = subst (Keeps old) (sym same) (Keeps-refl old)
 untouched : (before now : Ports) (disk disk_now : DiskPort) → now.written ≡ before.written → Quiet disk.state disk_now.state → Untouched before now disk disk_now
 untouched before now disk disk_now same quiet = record { sink = keeps before.written now.written same; same = quiet }
 
-module _ (asked : Option ℕ) (before now : Ports) (disk : DiskPort) (new : ImagePort) (base : Base) (opens : Opens (Create asked) before disk [] base) (stands : Stands new base [])
+module _ (asked : Option ℕ) (before now : Ports) (disk : DiskPort) (new : ImageState) (base : Base) (opens : Opens (Create asked) before disk [] base) (stands : Stands new base [])
     (n : ℕ) (size : n ≡ base.sectors) where
   line-is : created_line n before.count ≡ created_line base.sectors before.count
   line-is = ap (λ (m : ℕ). created_line m before.count) size

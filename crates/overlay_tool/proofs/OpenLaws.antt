@@ -17,11 +17,11 @@ use Rattle.overlay_tool.specs.Flattening.{AreTold}
 use Rattle.overlay_tool.specs.Images.{DiskPort, AreStackedFiles, LiesOver, Takes}
 use Rattle.overlay_tool.specs.ImageCauses.{IsCreate, Untouched, ImageCause}
 use Rattle.overlay_tool.specs.declared.words.Command.{Command}
-use Rattle.overlay_tool.specs.declared.words.Command.TheVariants.{Create}
 use Rattle.overlay_tool.specs.declared.refusal.Refusal.{Refusal}
 use Rattle.overlay_tool.specs.declared.refusal.Refusal.TheVariants as refused
+use Rattle.overlay_tool.specs.Texts.{load_cause}
 use Rattle.overlay_tool.specs.Causes.{Ports}
-use Rattle.overlay_tool.specs.ImageSteps.{IsOpened, OpenCause, load_refused_as}
+use Rattle.overlay_tool.specs.ImageSteps.{IsOpened, OpenCause}
 use Rattle.image_core.specs.Parts as parts
 use Rattle.overlay_tool.proofs.Pieces.{IfSome-at, IfSome-each, length_told}
 use Rattle.overlay_tool.proofs.ToldLayers.{layers_of, told_layers, told_heads}
@@ -68,7 +68,7 @@ opened told count layers tells s s' f f' p are long same is = (
 -- it was not opened
 pub load-refused : (told : Option (List (List ℕ))) (count shelf shelf_now : ℕ) (disk disk_now : DiskPort) (layers : List LayerIndex) (fault : LoadFault)
     → IfSome told (λ files. AreTold files layers) → AreStackOrNone layers → (fault ≡ load.Failed → disk.faults < disk_now.faults) → (IsTrue disk.tells → IsLoadReason disk.state.seen layers fault)
-    → OpenCause told count shelf shelf_now disk disk_now (load_refused_as fault)
+    → OpenCause told count shelf shelf_now disk disk_now (load_cause fault)
 load-refused told count shelf shelf_now disk disk_now layers load.Memory are legal failed reason = tt
 load-refused told count shelf shelf_now disk disk_now layers load.Failed are legal failed reason = (failed refl, stacked told layers are legal)
 load-refused told count shelf shelf_now disk disk_now layers fault are legal failed reason = (

@@ -11,14 +11,14 @@ use Rattle.overlay_tool.specs.declared.refusal.Refusal.TheVariants as refused
 use Rattle.overlay_tool.specs.Causes.{Ports}
 use Rattle.overlay_tool.specs.Images.{DiskPort, Opens, PrintsFront, Does, Began, IsBegun}
 use Rattle.overlay_tool.specs.ImageCauses.{OpenedOnly, ImageCause}
-use Rattle.overlay_tool.specs.ImageSteps.{ImagePort, Stands, disk_of, Adds, fault, WritesSectors, WritesFront, ReadCause}
+use Rattle.overlay_tool.specs.ImageSteps.{ImageState, Stands, disk_of, Adds, fault, WritesSectors, WritesFront, ReadCause}
 use Rattle.overlay_tool.proofs.Answered.{ok-both, err-both}
 use Rattle.overlay_tool.proofs.Pieces.{IfSome-at, IfSome-each}
 use Rattle.overlay_tool.proofs.WithoutReads.{shows-none}
 use Rattle.overlay_tool.proofs.CopyLaws.{reply-split}
 use Rattle.overlay_tool.proofs.ImageLaws.{length-reply, leaves-acts, sectors-are, holds-of}
 
-module _ (at count : ℕ) (before now : Ports) (disk : DiskPort) (old new : ImagePort) (base : Base) (told_same : IsTrue disk.tells → IsTrue old.tells)
+module _ (at count : ℕ) (before now : Ports) (disk : DiskPort) (old new : ImageState) (base : Base) (told_same : IsTrue disk.tells → IsTrue old.tells)
     (opens : Opens (Read at count) before disk [] base) (within : at + count ≤ base.sectors) (stands : Stands old base []) where
   pub read-does : (IsTrue new.tells → Leaves new.state new.state.seen) → Adds [] old new → WritesSectors old before.files at count before.written now.written
       → Does (Read at count) before now disk (disk_of new)

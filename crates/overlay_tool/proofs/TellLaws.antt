@@ -19,13 +19,13 @@ use Rattle.overlay_tool.specs.declared.refusal.Refusal.TheVariants as refused
 use Rattle.overlay_tool.specs.Causes.{Ports}
 use Rattle.overlay_tool.specs.Images.{DiskPort, Opens, IsPrinted, Does, Began, IsBegun, act_of, kept_act, acts_of, reach_of}
 use Rattle.overlay_tool.specs.ImageCauses.{ImageCause}
-use Rattle.overlay_tool.specs.ImageSteps.{ImagePort, Stands, disk_of, Adds, fault, ChangeCause, TellCause}
+use Rattle.overlay_tool.specs.ImageSteps.{ImageState, Stands, disk_of, Adds, fault, ChangeCause, TellCause}
 use Rattle.overlay_tool.proofs.Answered.{ok-both}
 use Rattle.overlay_tool.proofs.WithoutReads.{IsChange, shows-kept}
 use Rattle.overlay_tool.proofs.ImageLaws.{leaves-acts, holds-of, rows-are, filled-is}
 
 -- the change or its flush was refused
-pub tell-changed : (change : Act) (line : List ℕ) (old new : ImagePort) (sink : ℕ) (written : Option (List ℕ)) (refusal : Refusal) → ChangeCause change old new refusal
+pub tell-changed : (change : Act) (line : List ℕ) (old new : ImageState) (sink : ℕ) (written : Option (List ℕ)) (refusal : Refusal) → ChangeCause change old new refusal
     → TellCause change line old new sink sink written written refusal
 tell-changed change line old new sink written refused.Memory cause = (cause, Keeps-refl written)
 tell-changed change line old new sink written refused.DiskFault cause = (cause, Keeps-refl written)
@@ -33,14 +33,14 @@ tell-changed change line old new sink written (refused.Full rows sectors) cause 
 tell-changed change line old new sink written other cause = absurd cause
 
 -- the line was not written whole
-pub tell-failed : {T : Type 0} (r : Result T Refusal) (change : Act) (line : List ℕ) (old new : ImagePort) (sink sink_now : ℕ) (written written_now : Option (List ℕ)) → Adds (kept_act (Some change)) old new
+pub tell-failed : {T : Type 0} (r : Result T Refusal) (change : Act) (line : List ℕ) (old new : ImageState) (sink sink_now : ℕ) (written written_now : Option (List ℕ)) → Adds (kept_act (Some change)) old new
     → IfErr r (λ refusal. refusal ≡ refused.SinkFault) → OnErr r (sink < sink_now) → OnErr r (AppendsFront written written_now line)
     → IfErr r (TellCause change line old new sink sink_now written written_now)
 tell-failed (Ok value) change line old new sink sink_now written written_now adds is rose front = tt
 tell-failed (Err refusal) change line old new sink sink_now written written_now adds is rose front =
     subst (λ (x : Refusal). TellCause change line old new sink sink_now written written_now x) (sym is) (rose, adds, front)
 
-module _ (command : Command) (bytes line : List ℕ) (change : Act) (before now : Ports) (disk : DiskPort) (old new : ImagePort) (base : Base)
+module _ (command : Command) (bytes line : List ℕ) (change : Act) (before now : Ports) (disk : DiskPort) (old new : ImageState) (base : Base)
     (asked : act_of command bytes ≡ Some change) (is_change : IsChange change) (all_kept : kept (kept_act (Some change)) ≡ 2)
     (opens : Opens command before disk bytes base) (within : reach_of command bytes ≤ base.sectors) (stands : Stands old base [])
     (printed : IsPrinted command before disk bytes base line) where

@@ -14,7 +14,7 @@ use Rattle.overlay_tool.specs.declared.refusal.Refusal.TheVariants as refused
 use Rattle.image_core.specs.declared.loading.LoadFault.{LoadFault}
 use Rattle.image_core.specs.declared.loading.LoadFault.TheVariants as load
 use Rattle.overlay_tool.specs.Prints.{LayerSheet, AreLayers, AreShort, heads_of, input_limit, read_by, Prints}
-use Rattle.overlay_tool.specs.Texts.{code_of, line_of}
+use Rattle.overlay_tool.specs.Texts.{line_of}
 
 -- the objects that the call was handed, at one moment: the bytes left in the source, those written to the sink, the
 -- files of the shelf and how many they are, and the faults of each so far
@@ -102,7 +102,7 @@ IsBadLayer (Flatten true) files number fault = AreShort files × StopsAt files n
 IsBadLayer (Info wanted) files number fault = (number ≡ wanted) × (number < length files) × IsLayerFault (file_at files number) fault × IsOfFile fault
 IsBadLayer other files number fault = StopsAt files number fault
 
--- the cause of a command's refusal, and what stands after it; nothing is refused yet as only commands over an image are
+-- the cause of a refusal of a command over layers, and what stands after it
 abbrev pub Cause : Command → Ports → Ports → Refusal → Type 0
 Cause command before now refused.Usage = ⊥
 Cause command before now refused.SourceFault = ReadsSource command × (before.source_faults < now.source_faults) × PrintsNothing before now
@@ -123,16 +123,6 @@ abbrev pub IsNoted : Notes → Notes → Refusal → Type 0
 IsNoted before now refusal =
     Appends before.written now.written (line_of refusal)
     ⊎ ((before.faults < now.faults) × AppendsFront before.written now.written (line_of refusal))
-
--- the cause of a refusal of the words, or of the command that they are
-abbrev pub WordsCause : Option Command → Ports → Ports → Refusal → Type 0
-WordsCause None before now refusal = (refusal ≡ refused.Usage) × PrintsNothing before now
-WordsCause (Some command) before now refusal = Cause command before now refusal
-
--- a run with that status was refused: with a cause, its status and its line
-abbrev pub IsRefused : Option Command → Ports → Ports → Notes → Notes → ℕ → Type 0
-IsRefused command before now notes notes_now code =
-    (refusal : Refusal) × (code ≡ code_of refusal) × IsNoted notes notes_now refusal × WordsCause command before now refusal
 
 -- no fault rose
 pub record IsCalm (before now : Ports) : Type 0 where

@@ -20,8 +20,6 @@ use Rattle.image_core.specs.declared.creating.CreateFault.{CreateFault}
 use Rattle.image_core.specs.declared.creating.CreateFault.TheVariants as create
 use Rattle.image_core.specs.declared.whole.WholeFault.{WholeFault}
 use Rattle.image_core.specs.declared.whole.WholeFault.TheVariants as whole
-use Rattle.image_core.specs.declared.loading.LoadFault.{LoadFault}
-use Rattle.image_core.specs.declared.loading.LoadFault.TheVariants as load
 use Rattle.image_core.specs.declared.parts.Parts.{Parts}
 use Rattle.image_core.specs.Parts.{parts_view, ImageStands}
 use Rattle.overlay_tool.specs.declared.refusal.Refusal.{Refusal}
@@ -32,22 +30,22 @@ use Rattle.overlay_tool.specs.Images.{DiskPort, AreStackedFiles, LiesOver, IsNew
 use Rattle.overlay_tool.specs.ImageCauses.{HaveOtherSize, HasSize, HoldsNone}
 
 -- an image in memory with its disk, at one moment
-pub record ImagePort : Type 1 where
+pub record ImageState : Type 1 where
   pub tells : Bool
   pub state : DiskState
   pub faults : ℕ
   pub parts : Parts
 
 -- the image stands for the history over the base
-abbrev pub Stands : ImagePort → Base → History → Type 0
+abbrev pub Stands : ImageState → Base → History → Type 0
 Stands image base history = ImageStands image.tells image.state image.faults image.parts base history
 
 -- the sectors of the image
-abbrev pub size_of : ImagePort → ℕ
+abbrev pub size_of : ImageState → ℕ
 size_of image = (parts_view image.parts).sectors
 
 -- an image that was opened: it stands for nothing done over a base that is found on the disk, over the shelf's layers
-abbrev pub IsOpened : Option (List (List ℕ)) → ℕ → DiskPort → ImagePort → Type 0
+abbrev pub IsOpened : Option (List (List ℕ)) → ℕ → DiskPort → ImageState → Type 0
 IsOpened told count disk image =
     (base : Base) × LiesOver told count base × IsFound disk base × Stands image base []
 
@@ -77,7 +75,7 @@ abbrev pub without_reads : History → History
 without_reads history = filter (λ e. is_no_read e.act) history
 
 -- whatever the image stood for, it stands now for that with these acts behind it, and perhaps reads among them
-pub record Adds (acts : History) (old new : ImagePort) : Type 0 where
+pub record Adds (acts : History) (old new : ImageState) : Type 0 where
   pub stands : (base : Base) (history : History) → Stands old base history
       → (more : History) × (without_reads more ≡ acts) × Stands new base (history ++ more)
 
@@ -86,19 +84,19 @@ abbrev pub fault : History
 fault = entry 0 (Fault Nothing) ∷ []
 
 -- the bytes are sectors of the image: so many, and which they are where the disk and the shelf tell
-pub record AreSectors (image : ImagePort) (told : Option (List (List ℕ))) (at count : ℕ) (bytes : List ℕ) : Type 0 where
+pub record AreSectors (image : ImageState) (told : Option (List (List ℕ))) (at count : ℕ) (bytes : List ℕ) : Type 0 where
   pub long : length bytes ≡ 512 * count
   pub are : IsTrue image.tells → IfSome told (λ files. (base : Base) (history : History) → Stands image base history
       → base.lowers ≡ files → bytes ≡ reply base history at count)
 
 -- sectors of the image were written
-pub record WritesSectors (image : ImagePort) (told : Option (List (List ℕ))) (at count : ℕ) (old new : Option (List ℕ)) : Type 0 where
+pub record WritesSectors (image : ImageState) (told : Option (List (List ℕ))) (at count : ℕ) (old new : Option (List ℕ)) : Type 0 where
   pub bytes : List ℕ
   pub sectors : AreSectors image told at count bytes
   pub written : Appends old new bytes
 
 -- a front of sectors of the image was written, of no more than so many
-pub record WritesFront (image : ImagePort) (told : Option (List (List ℕ))) (at count : ℕ) (old new : Option (List ℕ)) : Type 0 where
+pub record WritesFront (image : ImageState) (told : Option (List (List ℕ))) (at count : ℕ) (old new : Option (List ℕ)) : Type 0 where
   pub part : ℕ
   pub within : part ≤ count
   pub bytes : List ℕ
@@ -106,7 +104,7 @@ pub record WritesFront (image : ImagePort) (told : Option (List (List ℕ))) (at
   pub front : AppendsFront old new bytes
 
 -- why sectors were not all read and written
-abbrev pub ReadCause : (old new : ImagePort) → (shelf shelf_now sink sink_now : ℕ) → Refusal → Type 0
+abbrev pub ReadCause : (old new : ImageState) → (shelf shelf_now sink sink_now : ℕ) → Refusal → Type 0
 ReadCause old new shelf shelf_now sink sink_now refused.Memory = Adds [] old new
 ReadCause old new shelf shelf_now sink sink_now refused.DiskFault = (old.faults < new.faults) × Adds fault old new
 ReadCause old new shelf shelf_now sink sink_now refused.ShelfFault = (shelf < shelf_now) × Adds [] old new
@@ -114,14 +112,14 @@ ReadCause old new shelf shelf_now sink sink_now refused.SinkFault = (sink < sink
 ReadCause old new shelf shelf_now sink sink_now other = ⊥
 
 -- the top has used so many rows and sectors, and with those of the change it would be over what it may
-pub record HasNoRoom (change : Act) (old new : ImagePort) (rows sectors : ℕ) : Type 0 where
+pub record HasNoRoom (change : Act) (old new : ImageState) (rows sectors : ℕ) : Type 0 where
   pub rows_are : rows ≡ (parts_view old.parts).rows
   pub sectors_are : sectors ≡ (parts_view old.parts).filled
   pub over : IsOver (rows + rows_taken change) (sectors + sectors_taken change)
   pub adds : Adds [] old new
 
 -- why a change of an image and the flush behind it were not both done
-abbrev pub ChangeCause : Act → (old new : ImagePort) → Refusal → Type 0
+abbrev pub ChangeCause : Act → (old new : ImageState) → Refusal → Type 0
 ChangeCause change old new refused.Memory = Adds [] old new
 ChangeCause change old new refused.DiskFault =
     (old.faults < new.faults) × ((front : History) × StartsWith (kept_act (Some change)) front × Adds (front ++ fault) old new)
@@ -134,18 +132,12 @@ change_refused_as (write.Full rows sectors) = refused.Full rows sectors
 change_refused_as write.Memory = refused.Memory
 change_refused_as write.Failed = refused.DiskFault
 
--- what a fault of loading is refused as
-abbrev pub load_refused_as : LoadFault → Refusal
-load_refused_as load.Memory = refused.Memory
-load_refused_as load.Failed = refused.DiskFault
-load_refused_as fault = refused.Load fault
-
 -- the disk of an image
-abbrev pub disk_of : ImagePort → DiskPort
+abbrev pub disk_of : ImageState → DiskPort
 disk_of image = record { tells = image.tells; state = image.state; faults = image.faults }
 
 -- why a change, the flush behind it and the line that tells of it were not all done, and what was written then
-abbrev pub TellCause : Act → List ℕ → (old new : ImagePort) → (sink sink_now : ℕ) → (written written_now : Option (List ℕ)) → Refusal → Type 0
+abbrev pub TellCause : Act → List ℕ → (old new : ImageState) → (sink sink_now : ℕ) → (written written_now : Option (List ℕ)) → Refusal → Type 0
 TellCause change line old new sink sink_now written written_now refused.Memory =
     Adds [] old new × Keeps written written_now
 TellCause change line old new sink sink_now written written_now refused.DiskFault =
@@ -157,7 +149,7 @@ TellCause change line old new sink sink_now written written_now refused.SinkFaul
 TellCause change line old new sink sink_now written written_now other = ⊥
 
 -- an image that was made: it stands for nothing done over a new base, over the shelf's layers
-abbrev pub IsMade : Option ℕ → Option (List (List ℕ)) → ℕ → DiskPort → ImagePort → Type 0
+abbrev pub IsMade : Option ℕ → Option (List (List ℕ)) → ℕ → DiskPort → ImageState → Type 0
 IsMade asked told count disk image =
     (base : Base) × LiesOver told count base × IsNew asked count disk base × Stands image base []
 

@@ -47,7 +47,7 @@ input_limit (Flatten true) = 2 ^ 30
 input_limit (Write at) = 33554432
 input_limit other = 0
 
--- what a command prints of the files that it reads; a command over an image prints nothing yet
+-- what a command over layers prints of the files that it reads
 abbrev pub Prints : Command → List (List ℕ) → List ℕ → Type 0
 Prints (Flatten true) files bytes = (layers : List LayerSheet) × AreShort files × AreLayers files layers × (bytes ≡ flat_image layers)
 Prints (Flatten false) files bytes = (layers : List LayerSheet) × AreLayers files layers × Legal (heads_of layers) × (bytes ≡ flat_image layers)

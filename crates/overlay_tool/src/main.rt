@@ -1,5 +1,6 @@
-//! Layers of block images: writes the flat image of one layer that is read from standard input, or of
-//! a stack of layers, and prints what layers say of themselves.
+//! Layers of block images, and images over them: writes the flat image of one layer that is read from
+//! standard input, or of a stack of layers, prints what layers say of themselves, and makes, reads,
+//! writes and zeros the image of a disk over a stack of layers.
 #![tactic(auto)]
 
 mod changing;

@@ -1,30 +1,14 @@
-//! Opens and makes the image on a disk over the layers of a shelf.
-ghost use Rattle.std.specs.Prelude.{◌≡◌, ℕ, ◌≤◌, IfOk, IfErr, MatchResult};
+//! Opens the image on a disk over the layers of a shelf.
+ghost use Rattle.std.specs.Prelude.{◌≡◌, ◌≤◌, IfOk, IfErr, MatchResult};
 ghost use Rattle.block_disk.specs.Claims.{Quiet};
-ghost use Rattle.overlay_tool.specs.ImageSteps.{IsOpened, OpenCause, load_refused_as};
+ghost use Rattle.overlay_tool.specs.ImageSteps.{IsOpened, OpenCause};
 
-use crate::refusal::Refusal;
+use crate::refusal::{Refusal, load_refusal};
 use crate::stacks::read_lowers;
 use block_disk::Disk;
-use image_core::{Image, LayerList, LoadFault};
+use image_core::{Image, LayerList};
 use layer_shelf::Shelf;
 use std::alloc::Global;
-
-/// What a fault of loading is refused as.
-fn load_refusal(fault: LoadFault) -> Refusal
-    ensures { result ≡ load_refused_as fault }
-{
-    match fault {
-        LoadFault::Memory => Refusal::Memory,
-        LoadFault::Failed => Refusal::DiskFault,
-        LoadFault::NoImage
-        | LoadFault::ManifestWorn(_)
-        | LoadFault::ManifestBad
-        | LoadFault::SizeDiffers
-        | LoadFault::Stack(_)
-        | LoadFault::NoTop { .. } => Refusal::Load(fault),
-    }
-}
 
 /// Opens the image on the disk over the shelf's layers. It changes nothing of the disk.
 pub fn open_image<S: Shelf, D: Disk>(

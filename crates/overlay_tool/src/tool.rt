@@ -5,7 +5,7 @@ ghost use Rattle.overlay_tool.specs.Words.{command_of};
 ghost use Rattle.overlay_tool.specs.Prints.{Prints, read_by};
 ghost use Rattle.overlay_tool.specs.Clear.{IsClear};
 ghost use Rattle.overlay_tool.specs.Runs.{IsOverLayers, IsSized, Succeeds, Fails, WordsFail, RunFails};
-ghost use Rattle.overlay_tool.specs.Causes.{Cause, IsCalm, IsNoted, IsRefused, PrintsAll, TakesAtMost, WordsCause, most_taken};
+ghost use Rattle.overlay_tool.specs.Causes.{Cause, IsCalm, IsNoted, PrintsAll, TakesAtMost, most_taken};
 
 use crate::commands::{flatten_shelf, print_head, print_stack};
 use crate::images::{create_image, read_image, write_image, zero_image};

@@ -1,7 +1,7 @@
 use Rattle.std.proofs.Common.{arith, rules}
 use Rattle.std.proofs.KnownBytes.{Keeps-refl}
 use Rattle.flat_image.specs.declared.act.Act.TheVariants.{Read}
-use Rattle.overlay_tool.specs.ImageSteps.{ImagePort}
+use Rattle.overlay_tool.specs.ImageSteps.{ImageState}
 use Rattle.overlay_tool.proofs.ImageAdds.{adds-read, none-written}
 use Rattle.overlay_tool.proofs.CopyLaws.{whole-refused, are-sectors}
 use Rattle.overlay_tool.proofs.copying.copy_piece.Goals as goal
@@ -23,7 +23,7 @@ returns-in-Ok-write_all-clause-adds g c =
 
 pub returns-in-Err-write_all-clause-front : goal.returns-in-Err-write_all-clause-front
 returns-in-Err-write_all-clause-front g c =
-    let image : ImagePort = record { tells = g.D.Disk.tells; state = g.D.Disk.state c.args.image.now.disk; faults = g.D.Disk.faults c.args.image.now.disk; parts = c.args.image.now.parts } in
+    let image : ImageState = record { tells = g.D.Disk.tells; state = g.D.Disk.state c.args.image.now.disk; faults = g.D.Disk.faults c.args.image.now.disk; parts = c.args.image.now.parts } in
     record {
       part = c.args.count;
       within = omega arith;

@@ -1,7 +1,7 @@
 use Rattle.std.proofs.Common.{◌≡◌, ℕ, ◌+◌, ◌≤◌, [], refl, ◌∙◌, subst, arith, rules}
 use Rattle.std.proofs.lemmas.Result.{err_from_is_err_and}
 use Rattle.std.proofs.KnownBytes.{Keeps-refl, Appends-nil}
-use Rattle.overlay_tool.specs.ImageSteps.{ImagePort, WritesSectors}
+use Rattle.overlay_tool.specs.ImageSteps.{ImageState, WritesSectors}
 use Rattle.overlay_tool.proofs.ImageAdds.{adds-nothing, adds-joined, standing-after, none-written, no-sectors}
 use Rattle.overlay_tool.proofs.CopyLaws.{writes-joined, front-joined, cause-after}
 use Rattle.overlay_tool.proofs.copying.copy_sectors.Goals as goal
@@ -18,7 +18,7 @@ returns-in_err-buffer-clause-refused g c =
 
 pub loop-done-init : goal.loop-done-init
 loop-done-init g c =
-    let image : ImagePort = record { tells = g.D.Disk.tells; state = g.D.Disk.state c.args.image.now.disk; faults = g.D.Disk.faults c.args.image.now.disk; parts = c.args.image.now.parts } in
+    let image : ImageState = record { tells = g.D.Disk.tells; state = g.D.Disk.state c.args.image.now.disk; faults = g.D.Disk.faults c.args.image.now.disk; parts = c.args.image.now.parts } in
     record {
       standing = c.requires.standing;
       adds = adds-nothing image;
@@ -37,8 +37,8 @@ loop-done-init g c =
 
 pub returns-in_err-copy_piece-clause-front : goal.returns-in_err-copy_piece-clause-front
 returns-in_err-copy_piece-clause-front g c =
-    let old : ImagePort = record { tells = g.D.Disk.tells; state = g.D.Disk.state c.args.image.now.disk; faults = g.D.Disk.faults c.args.image.now.disk; parts = c.args.image.now.parts } in
-    let mid : ImagePort = record { tells = g.D.Disk.tells; state = g.D.Disk.state c.loop-done.image.disk; faults = g.D.Disk.faults c.loop-done.image.disk; parts = c.loop-done.image.parts } in
+    let old : ImageState = record { tells = g.D.Disk.tells; state = g.D.Disk.state c.args.image.now.disk; faults = g.D.Disk.faults c.args.image.now.disk; parts = c.args.image.now.parts } in
+    let mid : ImageState = record { tells = g.D.Disk.tells; state = g.D.Disk.state c.loop-done.image.disk; faults = g.D.Disk.faults c.loop-done.image.disk; parts = c.loop-done.image.parts } in
     let p = err_from_is_err_and c.from_residual-in_err-copy_piece.result c.from_residual-in_err-copy_piece.ensures.1 in
     rw p.1 (front-joined old mid (g.S.Shelf.files c.args.shelf.now) (g.S.Shelf.files c.loop-done.shelf) c.args.at c.loop-done.done c.min-part.result c.args.count
     (g.B.Sink.written c.args.out.now) (g.B.Sink.written c.loop-done.out) (g.B.Sink.written c.copy_piece.new.out) refl c.loop-done.invariant.files c.loop-done.invariant.adds
@@ -46,9 +46,9 @@ returns-in_err-copy_piece-clause-front g c =
 
 pub returns-in_err-copy_piece-clause-refused : goal.returns-in_err-copy_piece-clause-refused
 returns-in_err-copy_piece-clause-refused g c =
-    let old : ImagePort = record { tells = g.D.Disk.tells; state = g.D.Disk.state c.args.image.now.disk; faults = g.D.Disk.faults c.args.image.now.disk; parts = c.args.image.now.parts } in
-    let mid : ImagePort = record { tells = g.D.Disk.tells; state = g.D.Disk.state c.loop-done.image.disk; faults = g.D.Disk.faults c.loop-done.image.disk; parts = c.loop-done.image.parts } in
-    let new : ImagePort = record { tells = g.D.Disk.tells; state = g.D.Disk.state c.copy_piece.new.image.disk; faults = g.D.Disk.faults c.copy_piece.new.image.disk; parts = c.copy_piece.new.image.parts } in
+    let old : ImageState = record { tells = g.D.Disk.tells; state = g.D.Disk.state c.args.image.now.disk; faults = g.D.Disk.faults c.args.image.now.disk; parts = c.args.image.now.parts } in
+    let mid : ImageState = record { tells = g.D.Disk.tells; state = g.D.Disk.state c.loop-done.image.disk; faults = g.D.Disk.faults c.loop-done.image.disk; parts = c.loop-done.image.parts } in
+    let new : ImageState = record { tells = g.D.Disk.tells; state = g.D.Disk.state c.copy_piece.new.image.disk; faults = g.D.Disk.faults c.copy_piece.new.image.disk; parts = c.copy_piece.new.image.parts } in
     let p = err_from_is_err_and c.from_residual-in_err-copy_piece.result c.from_residual-in_err-copy_piece.ensures.1 in
     rw (p.1, p.2) (cause-after old mid new (g.S.Shelf.faults c.args.shelf.now) (g.S.Shelf.faults c.loop-done.shelf) (g.S.Shelf.faults c.copy_piece.new.shelf)
     (g.B.Sink.faults c.args.out.now) (g.B.Sink.faults c.loop-done.out) (g.B.Sink.faults c.copy_piece.new.out) c.in_err-copy_piece.field-0.0
@@ -56,9 +56,9 @@ returns-in_err-copy_piece-clause-refused g c =
 
 pub loop-done-preserved : goal.loop-done-preserved
 loop-done-preserved g c =
-    let old : ImagePort = record { tells = g.D.Disk.tells; state = g.D.Disk.state c.args.image.now.disk; faults = g.D.Disk.faults c.args.image.now.disk; parts = c.args.image.now.parts } in
-    let mid : ImagePort = record { tells = g.D.Disk.tells; state = g.D.Disk.state c.loop-done.image.disk; faults = g.D.Disk.faults c.loop-done.image.disk; parts = c.loop-done.image.parts } in
-    let new : ImagePort = record { tells = g.D.Disk.tells; state = g.D.Disk.state c.copy_piece.new.image.disk; faults = g.D.Disk.faults c.copy_piece.new.image.disk; parts = c.copy_piece.new.image.parts } in
+    let old : ImageState = record { tells = g.D.Disk.tells; state = g.D.Disk.state c.args.image.now.disk; faults = g.D.Disk.faults c.args.image.now.disk; parts = c.args.image.now.parts } in
+    let mid : ImageState = record { tells = g.D.Disk.tells; state = g.D.Disk.state c.loop-done.image.disk; faults = g.D.Disk.faults c.loop-done.image.disk; parts = c.loop-done.image.parts } in
+    let new : ImageState = record { tells = g.D.Disk.tells; state = g.D.Disk.state c.copy_piece.new.image.disk; faults = g.D.Disk.faults c.copy_piece.new.image.disk; parts = c.copy_piece.new.image.parts } in
     let done = c.in_ok-copy_piece.ensures in
     let part : ℕ = c.min-part.result in
     let within : c.loop-done.done + part ≤ c.args.count = omega (arith, c.min-part.ensures) in
@@ -83,6 +83,6 @@ loop-done-preserved g c =
 
 pub returns-clause-done : goal.returns-clause-done
 returns-clause-done g c =
-    let old : ImagePort = record { tells = g.D.Disk.tells; state = g.D.Disk.state c.args.image.now.disk; faults = g.D.Disk.faults c.args.image.now.disk; parts = c.args.image.now.parts } in
+    let old : ImageState = record { tells = g.D.Disk.tells; state = g.D.Disk.state c.args.image.now.disk; faults = g.D.Disk.faults c.args.image.now.disk; parts = c.args.image.now.parts } in
     let all : c.loop-done.done ≡ c.args.count = omega (arith, c.loop-done.invariant.within, c.loop-done-test.false) in
     subst (λ (n : ℕ). WritesSectors old (g.S.Shelf.files c.args.shelf.now) c.args.at n (g.B.Sink.written c.args.out.now) (g.B.Sink.written c.loop-done.out)) all c.loop-done.invariant.writes

@@ -7,14 +7,14 @@ use Rattle.overlay_tool.specs.declared.words.Command.TheVariants.{Create}
 use Rattle.overlay_tool.specs.Reports.{created_line}
 use Rattle.overlay_tool.specs.Causes.{Ports}
 use Rattle.overlay_tool.specs.Images.{DiskPort, Opens}
-use Rattle.overlay_tool.specs.ImageSteps.{ImagePort}
+use Rattle.overlay_tool.specs.ImageSteps.{ImageState}
 use Rattle.overlay_tool.proofs.ImageLaws.{size-is}
 use Rattle.overlay_tool.proofs.MakeLaws.{create-done, create-failed, make-failed}
 use Rattle.overlay_tool.proofs.images.create_image.Goals as goal
 
 pub returns-in-Ok-clause-done : goal.returns-in-Ok-clause-done
 returns-in-Ok-clause-done g c =
-    let new : ImagePort = record { tells = g.D.Disk.tells; state = g.D.Disk.state c.in-Ok.image.disk; faults = g.D.Disk.faults c.in-Ok.image.disk; parts = c.in-Ok.image.parts } in
+    let new : ImageState = record { tells = g.D.Disk.tells; state = g.D.Disk.state c.in-Ok.image.disk; faults = g.D.Disk.faults c.in-Ok.image.disk; parts = c.in-Ok.image.parts } in
     let disk : DiskPort = record { tells = g.D.Disk.tells; state = g.D.Disk.state c.args.disk; faults = g.D.Disk.faults c.args.disk } in
     let made = c.in-Ok.ensures.made in
     let size : (parts_view c.in-Ok.image.parts).sectors ≡ made.0.sectors = size-is new made.0 made.3 in
@@ -31,7 +31,7 @@ returns-in-Ok-clause-done g c =
 
 pub returns-in-Ok-clause-refused : goal.returns-in-Ok-clause-refused
 returns-in-Ok-clause-refused g c =
-    let new : ImagePort = record { tells = g.D.Disk.tells; state = g.D.Disk.state c.in-Ok.image.disk; faults = g.D.Disk.faults c.in-Ok.image.disk; parts = c.in-Ok.image.parts } in
+    let new : ImageState = record { tells = g.D.Disk.tells; state = g.D.Disk.state c.in-Ok.image.disk; faults = g.D.Disk.faults c.in-Ok.image.disk; parts = c.in-Ok.image.parts } in
     let disk : DiskPort = record { tells = g.D.Disk.tells; state = g.D.Disk.state c.args.disk; faults = g.D.Disk.faults c.args.disk } in
     let made = c.in-Ok.ensures.made in
     let size : (parts_view c.in-Ok.image.parts).sectors ≡ made.0.sectors = size-is new made.0 made.3 in

@@ -4,7 +4,7 @@ use Rattle.std.proofs.KnownBytes.{Keeps-refl}
 use Rattle.overlay_tool.specs.declared.words.Command.TheVariants.{Read}
 use Rattle.overlay_tool.specs.Causes.{Ports}
 use Rattle.overlay_tool.specs.Images.{DiskPort, Opens}
-use Rattle.overlay_tool.specs.ImageSteps.{ImagePort, WritesSectors, WritesFront}
+use Rattle.overlay_tool.specs.ImageSteps.{ImageState, WritesSectors, WritesFront}
 use Rattle.overlay_tool.proofs.ImageAdds.{adds-nothing}
 use Rattle.overlay_tool.proofs.OpenLaws.{open-failed}
 use Rattle.overlay_tool.proofs.ImageLaws.{lowers-count, size-is, not-within, leaves-acts}
@@ -13,14 +13,14 @@ use Rattle.overlay_tool.proofs.images.read_image.Goals as goal
 
 pub copy_sectors-result-requires-clause-count : goal.copy_sectors-result-requires-clause-count
 copy_sectors-result-requires-clause-count g c =
-    let image : ImagePort = record { tells = g.D.Disk.tells; state = g.D.Disk.state c.in-Ok.image.disk; faults = g.D.Disk.faults c.in-Ok.image.disk; parts = c.in-Ok.image.parts } in
+    let image : ImageState = record { tells = g.D.Disk.tells; state = g.D.Disk.state c.in-Ok.image.disk; faults = g.D.Disk.faults c.in-Ok.image.disk; parts = c.in-Ok.image.parts } in
     let opened = c.in-Ok.ensures.opened in
     c.in-Ok.ensures.same_count ∙ lowers-count image opened.0 opened.3 (g.S.Shelf.files c.args.shelf.now) (g.S.Shelf.count c.args.shelf.now) opened.1
 
 pub returns-clause-done : goal.returns-clause-done
 returns-clause-done g c =
-    let image : ImagePort = record { tells = g.D.Disk.tells; state = g.D.Disk.state c.in-Ok.image.disk; faults = g.D.Disk.faults c.in-Ok.image.disk; parts = c.in-Ok.image.parts } in
-    let new : ImagePort = record { tells = g.D.Disk.tells; state = g.D.Disk.state c.copy_sectors-result.new.image.disk; faults = g.D.Disk.faults c.copy_sectors-result.new.image.disk; parts = c.copy_sectors-result.new.image.parts } in
+    let image : ImageState = record { tells = g.D.Disk.tells; state = g.D.Disk.state c.in-Ok.image.disk; faults = g.D.Disk.faults c.in-Ok.image.disk; parts = c.in-Ok.image.parts } in
+    let new : ImageState = record { tells = g.D.Disk.tells; state = g.D.Disk.state c.copy_sectors-result.new.image.disk; faults = g.D.Disk.faults c.copy_sectors-result.new.image.disk; parts = c.copy_sectors-result.new.image.parts } in
     let disk : DiskPort = record { tells = g.D.Disk.tells; state = g.D.Disk.state c.args.disk; faults = g.D.Disk.faults c.args.disk } in
     let opened = c.in-Ok.ensures.opened in
     let told = g.S.Shelf.files c.args.shelf.now in
@@ -37,8 +37,8 @@ returns-clause-done g c =
 
 pub returns-clause-refused : goal.returns-clause-refused
 returns-clause-refused g c =
-    let image : ImagePort = record { tells = g.D.Disk.tells; state = g.D.Disk.state c.in-Ok.image.disk; faults = g.D.Disk.faults c.in-Ok.image.disk; parts = c.in-Ok.image.parts } in
-    let new : ImagePort = record { tells = g.D.Disk.tells; state = g.D.Disk.state c.copy_sectors-result.new.image.disk; faults = g.D.Disk.faults c.copy_sectors-result.new.image.disk; parts = c.copy_sectors-result.new.image.parts } in
+    let image : ImageState = record { tells = g.D.Disk.tells; state = g.D.Disk.state c.in-Ok.image.disk; faults = g.D.Disk.faults c.in-Ok.image.disk; parts = c.in-Ok.image.parts } in
+    let new : ImageState = record { tells = g.D.Disk.tells; state = g.D.Disk.state c.copy_sectors-result.new.image.disk; faults = g.D.Disk.faults c.copy_sectors-result.new.image.disk; parts = c.copy_sectors-result.new.image.parts } in
     let disk : DiskPort = record { tells = g.D.Disk.tells; state = g.D.Disk.state c.args.disk; faults = g.D.Disk.faults c.args.disk } in
     let opened = c.in-Ok.ensures.opened in
     let told = g.S.Shelf.files c.args.shelf.now in
@@ -56,7 +56,7 @@ returns-clause-refused g c =
 
 pub returns-then-not-is_within-clause-refused : goal.returns-then-not-is_within-clause-refused
 returns-then-not-is_within-clause-refused g c =
-    let old : ImagePort = record { tells = g.D.Disk.tells; state = g.D.Disk.state c.in-Ok.image.disk; faults = g.D.Disk.faults c.in-Ok.image.disk; parts = c.in-Ok.image.parts } in
+    let old : ImageState = record { tells = g.D.Disk.tells; state = g.D.Disk.state c.in-Ok.image.disk; faults = g.D.Disk.faults c.in-Ok.image.disk; parts = c.in-Ok.image.parts } in
     let opened = c.in-Ok.ensures.opened in
     let size = size-is old opened.0 opened.3 in
     let is = c.sectors.ensures in

@@ -8,7 +8,7 @@ use Rattle.overlay_tool.specs.declared.words.Command.TheVariants.{Write}
 use Rattle.overlay_tool.specs.Reports.{wrote_line}
 use Rattle.overlay_tool.specs.Causes.{Ports}
 use Rattle.overlay_tool.specs.Images.{DiskPort, Opens, kept_act}
-use Rattle.overlay_tool.specs.ImageSteps.{ImagePort, Adds, TellCause}
+use Rattle.overlay_tool.specs.ImageSteps.{ImageState, Adds, TellCause}
 use Rattle.overlay_tool.proofs.ImageAdds.{adds-nothing}
 use Rattle.overlay_tool.proofs.OpenLaws.{open-failed}
 use Rattle.overlay_tool.proofs.ImageLaws.{size-is, not-within, leaves-acts}
@@ -17,8 +17,8 @@ use Rattle.overlay_tool.proofs.images.write_bytes.Goals as goal
 
 pub returns-clause-done : goal.returns-clause-done
 returns-clause-done g c =
-    let old : ImagePort = record { tells = g.D.Disk.tells; state = g.D.Disk.state c.in-Ok.image.disk; faults = g.D.Disk.faults c.in-Ok.image.disk; parts = c.in-Ok.image.parts } in
-    let new : ImagePort = record { tells = g.D.Disk.tells; state = g.D.Disk.state c.write_told-result.new.image.disk; faults = g.D.Disk.faults c.write_told-result.new.image.disk; parts = c.write_told-result.new.image.parts } in
+    let old : ImageState = record { tells = g.D.Disk.tells; state = g.D.Disk.state c.in-Ok.image.disk; faults = g.D.Disk.faults c.in-Ok.image.disk; parts = c.in-Ok.image.parts } in
+    let new : ImageState = record { tells = g.D.Disk.tells; state = g.D.Disk.state c.write_told-result.new.image.disk; faults = g.D.Disk.faults c.write_told-result.new.image.disk; parts = c.write_told-result.new.image.parts } in
     let disk : DiskPort = record { tells = g.D.Disk.tells; state = g.D.Disk.state c.args.disk; faults = g.D.Disk.faults c.args.disk } in
     let opened = c.in-Ok.ensures.opened in
     let place : c.extent_of.result.at ≡ c.args.at = c.extent_of.ensures.place in
@@ -37,8 +37,8 @@ returns-clause-done g c =
 
 pub returns-clause-refused : goal.returns-clause-refused
 returns-clause-refused g c =
-    let old : ImagePort = record { tells = g.D.Disk.tells; state = g.D.Disk.state c.in-Ok.image.disk; faults = g.D.Disk.faults c.in-Ok.image.disk; parts = c.in-Ok.image.parts } in
-    let new : ImagePort = record { tells = g.D.Disk.tells; state = g.D.Disk.state c.write_told-result.new.image.disk; faults = g.D.Disk.faults c.write_told-result.new.image.disk; parts = c.write_told-result.new.image.parts } in
+    let old : ImageState = record { tells = g.D.Disk.tells; state = g.D.Disk.state c.in-Ok.image.disk; faults = g.D.Disk.faults c.in-Ok.image.disk; parts = c.in-Ok.image.parts } in
+    let new : ImageState = record { tells = g.D.Disk.tells; state = g.D.Disk.state c.write_told-result.new.image.disk; faults = g.D.Disk.faults c.write_told-result.new.image.disk; parts = c.write_told-result.new.image.parts } in
     let disk : DiskPort = record { tells = g.D.Disk.tells; state = g.D.Disk.state c.args.disk; faults = g.D.Disk.faults c.args.disk } in
     let opened = c.in-Ok.ensures.opened in
     let place : c.extent_of.result.at ≡ c.args.at = c.extent_of.ensures.place in
@@ -55,7 +55,7 @@ returns-clause-refused g c =
 
 pub returns-then-not-is_within-clause-refused : goal.returns-then-not-is_within-clause-refused
 returns-then-not-is_within-clause-refused g c =
-    let old : ImagePort = record { tells = g.D.Disk.tells; state = g.D.Disk.state c.in-Ok.image.disk; faults = g.D.Disk.faults c.in-Ok.image.disk; parts = c.in-Ok.image.parts } in
+    let old : ImageState = record { tells = g.D.Disk.tells; state = g.D.Disk.state c.in-Ok.image.disk; faults = g.D.Disk.faults c.in-Ok.image.disk; parts = c.in-Ok.image.parts } in
     let opened = c.in-Ok.ensures.opened in
     let size = size-is old opened.0 opened.3 in
     let is = c.sectors.ensures in
