@@ -2,7 +2,7 @@
 ghost use Rattle.std.specs.Prelude.{◌≡◌, ℕ, ◌+◌, ◌-◌, ◌^◌, ◌≤◌, ◌↔◌, ◌⊎◌, Some, [], length, take, drop, min, is_err, if◌then◌else◌, IsOk, IsErr, OnErr, IfOk, Contains};
 ghost use Rattle.std.specs.Io.{ReadsAtMost};
 ghost use Rattle.std.specs.Io.KnownBytes.{ReadConsumes};
-ghost use Rattle.sector_extent.specs.Causes.{HasCause};
+ghost use Rattle.sector_extent.specs.Causes.{Charges};
 ghost use Rattle.byte_ports.specs.Ports.{WritesAll};
 
 use crate::ports::{PortFailed, Sink, Source};
@@ -58,7 +58,7 @@ impl Source for MemSource {
     fn read(&mut self, out: &mut [u8]) -> Result<usize, PortFailed>
         ensures bound { ReadsAtMost result out.new }
         ensures bytes { ReadConsumes (Some self.old.left) (Some self.new.left) result out.new }
-        ensures cause { HasCause self.old.faults self.new.faults result }
+        ensures cause { Charges (λ port. port.faults) self.old self.new (IsErr result) }
         ensures named { IsErr result ↔ Contains self.old.failing self.old.calls }
         ensures count { IfOk result (λ n. n ≡ min (length out.old) (length self.old.left)) }
         ensures raised { self.new.faults ≡ (if is_err result then self.old.faults + 1 else self.old.faults) }
@@ -141,7 +141,7 @@ impl Sink for MemSink {
     /// 2^64 - 1.
     fn write_all(&mut self, bytes: &[u8]) -> Result<(), PortFailed>
         ensures bytes { WritesAll (Some self.old.bytes) (Some self.new.bytes) result bytes.now }
-        ensures cause { HasCause self.old.faults self.new.faults result }
+        ensures cause { Charges (λ port. port.faults) self.old self.new (IsErr result) }
         ensures nothing { OnErr result (self.new.bytes ≡ self.old.bytes) }
         ensures raised { self.new.faults ≡ (if is_err result then self.old.faults + 1 else self.old.faults) }
 

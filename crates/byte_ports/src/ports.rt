@@ -1,9 +1,9 @@
 //! The traits of what gives bytes and of what takes them.
-ghost use Rattle.std.specs.Prelude.{ℕ, List};
+ghost use Rattle.std.specs.Prelude.{ℕ, List, IsErr};
 ghost use Rattle.std.specs.declared.option.Option.{Option};
 ghost use Rattle.std.specs.Io.{ReadsAtMost};
 ghost use Rattle.std.specs.Io.KnownBytes.{ReadConsumes};
-ghost use Rattle.sector_extent.specs.Causes.{HasCause};
+ghost use Rattle.sector_extent.specs.Causes.{Charges};
 ghost use Rattle.byte_ports.specs.Ports.{WritesAll};
 
 /// The fault of a source or of a sink.
@@ -24,7 +24,7 @@ pub trait Source {
     fn read(&mut self, out: &mut [u8]) -> Result<usize, PortFailed>
         ensures bound { ReadsAtMost result out.new }
         ensures bytes { ReadConsumes (left self.old) (left self.new) result out.new }
-        ensures cause { HasCause (faults self.old) (faults self.new) result };
+        ensures cause { Charges faults self.old self.new (IsErr result) };
 }
 
 /// Takes bytes, in order.
@@ -38,5 +38,5 @@ pub trait Sink {
     /// Writes all of `bytes`. After a failure a front of `bytes` was written.
     fn write_all(&mut self, bytes: &[u8]) -> Result<(), PortFailed>
         ensures bytes { WritesAll (written self.old) (written self.new) result bytes.now }
-        ensures cause { HasCause (faults self.old) (faults self.new) result };
+        ensures cause { Charges faults self.old self.new (IsErr result) };
 }

@@ -1,6 +1,6 @@
 //! Reads until a buffer is full.
-ghost use Rattle.std.specs.Prelude.{IfOk, OnErr};
-ghost use Rattle.sector_extent.specs.Causes.{HasCause};
+ghost use Rattle.std.specs.Prelude.{IfOk, OnErr, IsErr};
+ghost use Rattle.sector_extent.specs.Causes.{Charges};
 ghost use Rattle.byte_ports.specs.Ports.{FillsTo, TakesSome};
 
 use crate::ports::{PortFailed, Source};
@@ -10,7 +10,7 @@ use crate::ports::{PortFailed, Source};
 pub fn read_full<A: Source>(source: &mut A, out: &mut [u8]) -> Result<usize, PortFailed>
     ensures full { IfOk result (FillsTo (A.left source.old) (A.left source.new) out.new) }
     ensures failed { OnErr result (TakesSome (A.left source.old) (A.left source.new) out.new) }
-    ensures cause { HasCause (A.faults source.old) (A.faults source.new) result }
+    ensures cause { Charges A.faults source.old source.new (IsErr result) }
 {
     let mut at = 0;
     while at < out.len() {

@@ -16,7 +16,7 @@ pub type PathText = Bytes;
 /// Paths, in order.
 pub type PathList = ListOf<PathText>;
 
-/// The greatest number of files that are open at a time.
+// The greatest number of files that are open at a time.
 const SLOTS: usize = 256;
 
 /// File `k` stands at the path of number `k`. A file is opened at its first call and kept open, with

@@ -1,6 +1,5 @@
 //! A shelf in memory, whose calls fail where they were named to.
 ghost use Rattle.std.specs.Prelude.{◌≡◌, ℕ, ◌+◌, ◌-◌, ◌^◌, ◌<◌, ◌≤◌, ◌↔◌, ◌⊎◌, Some, length, take, drop, min, is_err, if◌then◌else◌, IsNone, IsErr, OnOk, IfOk, IfSome, Contains};
-ghost use Rattle.sector_extent.specs.Causes.{HasCause};
 ghost use Rattle.layer_shelf.specs.Shelves.{file_at};
 
 use crate::shelves::{Shelf, ShelfFailed};

@@ -1,8 +1,8 @@
 //! The trait of what holds the lower layer files.
-ghost use Rattle.std.specs.Prelude.{◌≡◌, ℕ, ◌+◌, ◌^◌, ◌<◌, ◌≤◌, List, length, take, drop, OnOk, IfOk, IfSome};
+ghost use Rattle.std.specs.Prelude.{◌≡◌, ℕ, ◌+◌, ◌^◌, ◌<◌, ◌≤◌, List, length, take, drop, OnOk, IfOk, IfSome, IsErr};
 ghost use Rattle.std.specs.declared.option.Option.{Option};
-ghost use Rattle.sector_extent.specs.Causes.{HasCause};
-ghost use Rattle.layer_shelf.specs.Shelves.{file_at};
+ghost use Rattle.sector_extent.specs.Causes.{Charges};
+ghost use Rattle.layer_shelf.specs.Shelves.{SameFiles, file_at};
 
 /// The fault of a shelf.
 #[derive(Clone, Copy, Debug, PartialEq, Eq)]
@@ -10,13 +10,13 @@ pub struct ShelfFailed;
 
 /// Numbered files that never change.
 pub trait Shelf {
-    // The files, where the shelf tells them.
+    /// The files, where the shelf tells them.
     ghost files: { Self → Option (List (List ℕ)) };
 
-    // How many files there are.
+    /// How many files there are.
     ghost count: { Self → ℕ };
 
-    // The faults so far.
+    /// The faults so far.
     ghost faults: { Self → ℕ };
 
     /// How many files there are. It never changes.
@@ -28,9 +28,8 @@ pub trait Shelf {
         requires { k < count self.old }
         ensures length { IfOk result (λ n. IfSome (files self.old) (λ list. n ≡ length (file_at list k))) }
         ensures limit { IfOk result (λ n. n ≤ 2 ^ 50) }
-        ensures same_files { files self.new ≡ files self.old }
-        ensures same_count { count self.new ≡ count self.old }
-        ensures cause { HasCause (faults self.old) (faults self.new) result };
+        ensures same { SameFiles files count self.old self.new }
+        ensures cause { Charges faults self.old self.new (IsErr result) };
 
     /// Fills `out` with the bytes of file `k` from byte `at` on. A range that is not empty and goes past
     /// the end is a fault. After a fault what stands in `out` is open.
@@ -41,10 +40,9 @@ pub trait Shelf {
             out.new ≡ take (length out.old) (drop at (file_at list k)))) }
         ensures within { OnOk result (IfSome (files self.old) (λ list.
             0 < length out.old → at + length out.old ≤ length (file_at list k))) }
-        ensures same_files { files self.new ≡ files self.old }
-        ensures same_count { count self.new ≡ count self.old }
-        ensures cause { HasCause (faults self.old) (faults self.new) result };
+        ensures same { SameFiles files count self.old self.new }
+        ensures cause { Charges faults self.old self.new (IsErr result) };
 
-    // A shelf that tells its files tells each of them.
+    /// A shelf that tells its files tells each of them.
     ghost counted: { (shelf : Self) → IfSome (files shelf) (λ list. length list ≡ count shelf) };
 }

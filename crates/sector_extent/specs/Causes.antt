@@ -1,7 +1,8 @@
--- Why a call may answer its fault.
-use Rattle.std.specs.Prelude.{ℕ, ◌<◌, ◌≤◌, Result, OnErr}
+-- When a count of faults rises.
+use Rattle.std.specs.Prelude.{ℕ, ◌<◌, ◌≤◌}
 
--- a count of faults never falls, and it rose in a call that answers an error
-pub record HasCause {T E : Type 0} (before now : ℕ) (result : Result T E) : Type 0 where
-  pub later : before ≤ now
-  pub failed : OnErr result (before < now)
+-- In a call the count of faults never falls, and it rises just where the answer is this fault.
+pub record Charges {S : Type 0} (count : S → ℕ) (old new : S) (fault : Type 0) : Type 0 where
+  pub later : count old ≤ count new
+  pub failed : fault → count old < count new
+  pub only : count old < count new → fault

@@ -1,4 +1,5 @@
 pub mod Calls
+pub mod CauseLaws
 pub mod Causes
 pub mod Places
 pub mod Rows
