@@ -1,12 +1,12 @@
 -- The disk in memory: what its calls do beside the rule of each disk, and why they fail.
-use Rattle.std.specs.Prelude.{◌≡◌, ℕ, ◌+◌, ◌-◌, ◌^◌, min, List, [], ◌∷◌, None, ◌++◌, ◌⊎◌, Result, IsTrue, IsErr, OnOk, OnErr}
+use Rattle.std.specs.Prelude.{◌≡◌, ℕ, ◌+◌, ◌-◌, ◌^◌, min, List, [], ◌∷◌, None, ◌++◌, ◌⊎◌, Result, IsErr, OnOk, OnErr}
 use Rattle.block_disk.specs.declared.disk.DiskFailed.{DiskFailed}
 use Rattle.block_disk.specs.declared.history.DiskCall.{DiskCall}
 use Rattle.block_disk.specs.declared.mem_disk.MemDisk.{MemDisk}
 use Rattle.block_disk.specs.declared.plan.Plan.{Plan}
 use Rattle.block_disk.specs.DiskState.{DiskState, Files, Spares}
 use Rattle.block_disk.specs.HistoryState.{past_of, start_of, state_of}
-use Rattle.block_disk.specs.Plan.{fails_next, after_call}
+use Rattle.block_disk.specs.Plan.{IsToFail, after_call}
 
 abbrev pub mem_state : MemDisk → DiskState
 mem_state disk = state_of disk.history
@@ -27,7 +27,7 @@ wants_of disk = disk.wants
 
 -- the next call was named to fail, or comes after the stop
 abbrev pub FailsNext : MemDisk → Type 0
-FailsNext disk = IsTrue (fails_next (plan_of disk))
+FailsNext disk = IsToFail (plan_of disk)
 
 -- a call that changes nothing fails exactly where it was to fail, or for this cause
 pub record Answers {T : Type 0} (cause : Type 0) (old new : MemDisk) (result : Result T DiskFailed) : Type 0 where
@@ -50,7 +50,7 @@ pub record Records {T : Type 0} (call : DiskCall) (part : List DiskCall) (old ne
 -- a disk to which nothing has happened yet
 pub record IsFresh (disk : MemDisk) : Type 0 where
   pub recorded : recorded disk ≡ []
-  pub plan : plan_of disk ≡ record { failing = []; asked = 0; stop = None }
+  pub plan : plan_of disk ≡ record { named = record { failing = []; calls = 0 }; stop = None }
   pub wants : wants_of disk ≡ 0
   pub faults : disk.faults.count ≡ 0
 

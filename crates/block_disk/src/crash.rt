@@ -23,7 +23,7 @@ pub enum CrashChoice {
     Torn,
 }
 
-/// The bytes, with those at odd places made 0xA5.
+// The bytes, with those at odd places made 0xA5.
 fn marked_bytes(alloc: Global, at: u64, bytes: &[u8]) -> Result<Vec<u8>, Memory>
     ensures { IfOk result (λ v. v.items ≡ marked (at % 2 == 1) bytes.now) }
 {
@@ -36,7 +36,7 @@ fn marked_bytes(alloc: Global, at: u64, bytes: &[u8]) -> Result<Vec<u8>, Memory>
     Ok(out)
 }
 
-/// Goes on by one call.
+// Goes on by one call.
 fn replay(
     alloc: Global,
     choice: CrashChoice,
@@ -44,7 +44,8 @@ fn replay(
     left: &mut FileMap,
     call: &DiskCall,
 ) -> Result<(), Memory>
-    ensures { OnOk result ((start : ℕ → List ℕ) (past : List DiskCall) → Replays choice start past seen.old left.old → Replays choice start (call.now ∷ past) seen.new left.new) }
+    ensures { OnOk result ((start : ℕ → List ℕ) (past : List DiskCall) → Replays choice start past seen.old left.old
+        → Replays choice start (call.now ∷ past) seen.new left.new) }
 {
     match call {
         DiskCall::Wrote { file, at, bytes } => {
@@ -74,9 +75,10 @@ impl History {
     ghost use Rattle.block_disk.specs.History.{left_by};
     ghost use Rattle.block_disk.specs.HistoryState.{past_of, start_of};
 
-    /// What the choice leaves of each file.
+    // What the choice leaves of each file.
     pub(crate) fn left(&self, alloc: Global, choice: CrashChoice) -> Result<FileMap, Memory>
-        ensures { IfOk result (λ left. (f : ℕ) → bytes_in left f ≡ left_by choice (start_of self.now) (past_of self.now) f) }
+        ensures { IfOk result (λ left.
+            (f : ℕ) → bytes_in left f ≡ left_by choice (start_of self.now) (past_of self.now) f) }
     {
         let mut seen = copy_of(&self.start)?;
         let mut left = copy_of(&self.start)?;
@@ -94,7 +96,8 @@ impl MemDisk {
 
     /// The disk after a crash at this moment. It is a new disk, with no call named to fail.
     pub fn crash(self, choice: CrashChoice) -> Result<MemDisk, Memory>
-        ensures left { IfOk result (λ disk. (f : ℕ) → (mem_state disk).seen f ≡ left_by choice (start_files self) (recorded self) f) }
+        ensures left { IfOk result (λ disk.
+            (f : ℕ) → (mem_state disk).seen f ≡ left_by choice (start_files self) (recorded self) f) }
         ensures image { IfOk result (λ disk. Leaves (mem_state self) (mem_state disk).seen) }
         ensures fresh { IfOk result IsFresh }
     {

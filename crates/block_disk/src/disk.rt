@@ -1,9 +1,9 @@
-ghost use Rattle.std.specs.Prelude.{◌≡◌, ℕ, ◌+◌, ◌^◌, ◌≤◌, List, length, take, Bool, IsTrue, OnOk, OnErr, IfOk, MatchResult};
-ghost use Rattle.sector_extent.specs.Causes.{HasCause};
+ghost use Rattle.std.specs.Prelude.{◌≡◌, ℕ, ◌+◌, ◌^◌, ◌≤◌, List, length, take, Bool, IsTrue, OnOk, OnErr, IfOk, MatchResult, IsErr};
+ghost use Rattle.sector_extent.specs.Causes.{Charges};
 ghost use Rattle.block_disk.specs.Changes.{piece, put, Torn, Cut, Same, Only, WroteInPart, CutInPart};
 ghost use Rattle.block_disk.specs.DiskState.{DiskState, Steps, MayLeave};
 
-/// The greatest size of a file that is answered, in bytes.
+// The greatest size of a file that is answered, in bytes.
 pub(crate) const MAX_FILE: u64 = 1 << 50;
 
 /// A call of a disk failed.
@@ -32,8 +32,7 @@ pub trait Disk {
         ensures limit { IfOk result (λ n. n ≤ 2 ^ 50) }
         ensures steps { Steps file Same (state self.old) (state self.new) }
         ensures may_leave { MayLeave file Same (state self.old) (state self.new) }
-        ensures calm { OnOk result (faults self.new ≡ faults self.old) }
-        ensures cause { HasCause (faults self.old) (faults self.new) result };
+        ensures cause { Charges faults self.old self.new (IsErr result) };
 
     /// Fills `out` with the bytes from `at` on. A range that ends past the end of the file fails.
     fn read_at(&mut self, file: u32, at: u64, out: &mut [u8]) -> Result<(), DiskFailed>
@@ -42,39 +41,43 @@ pub trait Disk {
         ensures bytes { OnOk result (IsTrue tells → out.new ≡ piece at (length out.new) ((state self.old).seen file)) }
         ensures steps { Steps file Same (state self.old) (state self.new) }
         ensures may_leave { MayLeave file Same (state self.old) (state self.new) }
-        ensures calm { OnOk result (faults self.new ≡ faults self.old) }
-        ensures cause { HasCause (faults self.old) (faults self.new) result };
+        ensures cause { Charges faults self.old self.new (IsErr result) };
 
     /// Writes the bytes from `at` on, over what is there and past the end. A gap before `at` becomes
     /// zeros. Until the next sync of the file that succeeds, a crash may leave anything at these
     /// places and past the old end, and any end between the two.
     fn write_at(&mut self, file: u32, at: u64, bytes: &[u8]) -> Result<(), DiskFailed>
         requires { at + length bytes.now ≤ 2 ^ 50 }
-        ensures written { OnOk result (IsTrue tells → (state self.new).seen file ≡ put ((state self.old).seen file) at bytes.now) }
-        ensures in_part { OnErr result (IsTrue tells → WroteInPart at bytes.now ((state self.old).seen file) ((state self.new).seen file)) }
+        ensures written { OnOk result
+            (IsTrue tells → (state self.new).seen file ≡ put ((state self.old).seen file) at bytes.now) }
+        ensures in_part { OnErr result
+            (IsTrue tells → WroteInPart at bytes.now ((state self.old).seen file) ((state self.new).seen file)) }
         ensures steps { Steps file (Torn at (length bytes.now)) (state self.old) (state self.new) }
-        ensures may_leave { MatchResult result (λ _. MayLeave file (Torn at (length bytes.now)) (state self.old) (state self.new)) (λ _. MayLeave file Same (state self.old) (state self.new)) }
-        ensures calm { OnOk result (faults self.new ≡ faults self.old) }
-        ensures cause { HasCause (faults self.old) (faults self.new) result };
+        ensures may_leave { MatchResult result
+            (λ _. MayLeave file (Torn at (length bytes.now)) (state self.old) (state self.new))
+            (λ _. MayLeave file Same (state self.old) (state self.new)) }
+        ensures cause { Charges faults self.old self.new (IsErr result) };
 
     /// Cuts a file off after `length` bytes. A shorter file stays as it is. Until the next sync of
     /// the file that succeeds, a crash may leave any of the part that was cut off, and anything in it.
     fn cut(&mut self, file: u32, length: u64) -> Result<(), DiskFailed>
-        ensures cut { OnOk result (IsTrue tells → (state self.new).seen file ≡ take length ((state self.old).seen file)) }
-        ensures in_part { OnErr result (IsTrue tells → CutInPart ((state self.old).seen file) ((state self.new).seen file)) }
+        ensures cut { OnOk result
+            (IsTrue tells → (state self.new).seen file ≡ take length ((state self.old).seen file)) }
+        ensures in_part { OnErr result
+            (IsTrue tells → CutInPart ((state self.old).seen file) ((state self.new).seen file)) }
         ensures steps { Steps file (Cut length) (state self.old) (state self.new) }
-        ensures may_leave { MatchResult result (λ _. MayLeave file (Cut length) (state self.old) (state self.new)) (λ _. MayLeave file Same (state self.old) (state self.new)) }
-        ensures calm { OnOk result (faults self.new ≡ faults self.old) }
-        ensures cause { HasCause (faults self.old) (faults self.new) result };
+        ensures may_leave { MatchResult result (λ _. MayLeave file (Cut length) (state self.old) (state self.new))
+            (λ _. MayLeave file Same (state self.old) (state self.new)) }
+        ensures cause { Charges faults self.old self.new (IsErr result) };
 
     /// Puts a file onto the disk: after a sync that succeeds a crash leaves what a read gives, also
     /// where an earlier sync failed.
     fn sync(&mut self, file: u32) -> Result<(), DiskFailed>
         ensures durable { OnOk result (Only ((state self.new).seen file) ((state self.new).may_leave file)) }
         ensures steps { Steps file Same (state self.old) (state self.new) }
-        ensures others { (f : ℕ) (c : List ℕ) → ¬ (f ≡ file) → (state self.old).may_leave f c → (state self.new).may_leave f c }
-        ensures calm { OnOk result (faults self.new ≡ faults self.old) }
-        ensures cause { HasCause (faults self.old) (faults self.new) result };
+        ensures others { (f : ℕ) (c : List ℕ) → ¬ (f ≡ file) → (state self.old).may_leave f c
+            → (state self.new).may_leave f c }
+        ensures cause { Charges faults self.old self.new (IsErr result) };
 
     /// A disk that does not tell allows no outcome of a crash.
     ghost told: { (d : Self) (f : ℕ) (c : List ℕ) → (state d).may_leave f c → IsTrue tells };
@@ -83,8 +86,10 @@ pub trait Disk {
     ghost seen_may_stay: { (d : Self) (f : ℕ) → IsTrue tells → (state d).may_leave f ((state d).seen f) };
 
     /// What a crash at this very moment might leave is what it may leave now.
-    ghost now_at: { (d : Self) (files : ℕ → List ℕ) → (state d).left_at (state d).moment files → (f : ℕ) → (state d).may_leave f (files f) };
+    ghost now_at: { (d : Self) (files : ℕ → List ℕ) → (state d).left_at (state d).moment files → (f : ℕ)
+        → (state d).may_leave f (files f) };
 
     /// What it may leave now it might leave at this very moment.
-    ghost at_now: { (d : Self) (files : ℕ → List ℕ) → ((f : ℕ) → (state d).may_leave f (files f)) → (state d).left_at (state d).moment files };
+    ghost at_now: { (d : Self) (files : ℕ → List ℕ) → ((f : ℕ) → (state d).may_leave f (files f))
+        → (state d).left_at (state d).moment files };
 }

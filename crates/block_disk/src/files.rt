@@ -25,7 +25,7 @@ fn paste(out: &mut [u8], at: usize, bytes: &[u8])
     out[at..at + bytes.len()].copy_from_slice(bytes);
 }
 
-/// Writes the bytes from `at` on; a gap before becomes zeros. No memory reaches past 2^64.
+// Writes the bytes from `at` on; a gap before becomes zeros. No memory reaches past 2^64.
 fn overlay(file: &mut Vec<u8>, at: usize, bytes: &[u8]) -> Result<(), Memory>
     ensures ok { OnOk result (file.new.items ≡ put file.old.items at bytes.now) }
     ensures err { OnErr result (file.new.items ≡ file.old.items) }
@@ -45,7 +45,8 @@ pub(crate) fn write_in(
     at: usize,
     bytes: &[u8],
 ) -> Result<(), Memory>
-    ensures ok { OnOk result ((f : ℕ) → bytes_in files.new f ≡ (if file == f then put (bytes_in files.old f) at bytes.now else bytes_in files.old f)) }
+    ensures ok { OnOk result ((f : ℕ) → bytes_in files.new f ≡
+        (if file == f then put (bytes_in files.old f) at bytes.now else bytes_in files.old f)) }
     ensures err { OnErr result ((f : ℕ) → bytes_in files.new f ≡ bytes_in files.old f) }
 {
     if let Some(old) = files.get_mut(&file) {
@@ -58,21 +59,23 @@ pub(crate) fn write_in(
 }
 
 pub(crate) fn cut_in(files: &mut FileMap, file: u32, length: usize)
-    ensures { (f : ℕ) → bytes_in files.new f ≡ (if file == f then take length (bytes_in files.old f) else bytes_in files.old f) }
+    ensures { (f : ℕ) → bytes_in files.new f ≡
+        (if file == f then take length (bytes_in files.old f) else bytes_in files.old f) }
 {
     if let Some(old) = files.get_mut(&file) {
         old.truncate(length);
     }
 }
 
-/// Makes the file hold these bytes.
+// Makes the file hold these bytes.
 pub(crate) fn set_in(
     alloc: Global,
     files: &mut FileMap,
     file: u32,
     bytes: &[u8],
 ) -> Result<(), Memory>
-    ensures ok { OnOk result ((f : ℕ) → bytes_in files.new f ≡ (if file == f then bytes.now else bytes_in files.old f)) }
+    ensures ok { OnOk result ((f : ℕ) → bytes_in files.new f ≡
+        (if file == f then bytes.now else bytes_in files.old f)) }
 {
     let copy = Vec::from_slice(alloc, bytes)?;
     files.insert(file, copy)?;

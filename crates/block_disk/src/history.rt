@@ -27,7 +27,7 @@ impl History {
     ghost use Rattle.block_disk.specs.HistoryState.{past_of, start_of, state_of};
     ghost use Rattle.block_disk.specs.declared.history.DiskCall.TheVariants.{Wrote, CutOff, Synced};
 
-    /// These files, all of them on the disk.
+    // These files, all of them on the disk.
     pub(crate) fn over(alloc: Global, start: FileMap) -> Result<History, Memory>
         ensures start { IfOk result (λ history. history.start ≡ start) }
         ensures past { IfOk result (λ history. past_of history ≡ []) }
@@ -40,7 +40,7 @@ impl History {
         })
     }
 
-    /// The bytes of a file, as a read gives them.
+    // The bytes of a file, as a read gives them.
     pub(crate) fn bytes(&self, file: u32) -> &[u8]
         ensures { result.now ≡ seen_after (start_of self.now) (past_of self.now) file }
     {

@@ -4,15 +4,21 @@
 mod crash;
 mod disk;
 mod files;
-mod folder;
+mod folder_calls;
+mod folder_disk;
+#[cfg(test)]
+mod folder_tests;
 mod history;
 mod mem_disk;
+mod open_files;
 mod plan;
 #[cfg(test)]
 mod tests;
 
 pub use crash::CrashChoice;
 pub use disk::{Disk, DiskFailed};
-pub use folder::{FolderDisk, PathText};
+pub use folder_calls::FolderCalls;
+pub use folder_disk::FolderDisk;
 pub use history::DiskCall;
 pub use mem_disk::{FileList, MemDisk};
+pub use open_files::PathText;

@@ -1,5 +1,5 @@
-ghost use Rattle.std.specs.Prelude.{◌≡◌, ℕ, ◌+◌, ◌-◌, ◌/◌, ◌^◌, ◌<◌, ◌≤◌, min, List, [], ◌∷◌, length, take, reverse, refl, true, IsTrue, OnOk, OnErr, IfOk, MatchResult};
-ghost use Rattle.sector_extent.specs.Causes.{HasCause};
+ghost use Rattle.std.specs.Prelude.{◌≡◌, ℕ, ◌+◌, ◌-◌, ◌/◌, ◌^◌, ◌<◌, ◌≤◌, min, List, [], ◌∷◌, length, take, reverse, refl, true, IsTrue, OnOk, OnErr, IfOk, MatchResult, IsErr};
+ghost use Rattle.sector_extent.specs.Causes.{Charges};
 ghost use Rattle.block_disk.specs.Changes.{piece, put, Torn, Cut, Same, Only, WroteInPart, CutInPart};
 ghost use Rattle.block_disk.specs.DiskState.{Steps, MayLeave};
 ghost use Rattle.block_disk.specs.FileMap.{bytes_in, listed};
@@ -8,7 +8,7 @@ use crate::disk::{Disk, DiskFailed, MAX_FILE};
 use crate::files::FileMap;
 use crate::history::History;
 use crate::plan::Plan;
-use sector_extent::{Bytes, CallList, FaultCount, ListOf, Memory};
+use sector_extent::{Bytes, CallList, CallPlan, FaultCount, ListOf, Memory};
 use std::alloc::Global;
 use std::collections::BTreeMap;
 
@@ -36,7 +36,7 @@ fn file_map(alloc: Global, files: FileList) -> Result<FileMap, Memory>
     Ok(map)
 }
 
-/// Counts a call that found no memory.
+// Counts a call that found no memory.
 fn count_want(wants: &mut u64, faults: &mut FaultCount)
     ensures wants { wants.new ≡ min (wants.old + 1) (2 ^ 64 - 1) }
     ensures faults { faults.new.count ≡ faults.old.count + 1 }
@@ -73,7 +73,7 @@ impl MemDisk {
 
     pub(crate) fn with(alloc: Global, history: History) -> MemDisk
         ensures history { result.history ≡ history }
-        ensures plan { plan_of result ≡ record { failing = []; asked = 0; stop = None } }
+        ensures plan { plan_of result ≡ record { named = record { failing = []; calls = 0 }; stop = None } }
         ensures wants { wants_of result ≡ 0 }
         ensures faults { result.faults.count ≡ 0 }
     {
@@ -81,8 +81,7 @@ impl MemDisk {
             alloc,
             history,
             plan: Plan {
-                failing: CallList::from_vec(Vec::new(alloc)),
-                asked: 0,
+                named: CallPlan::new(CallList::from_vec(Vec::new(alloc))),
                 stop: None,
             },
             wants: 0,
@@ -93,11 +92,10 @@ impl MemDisk {
     /// From now on the calls with these numbers fail, where the next call is number 0. Calls that
     /// were named before are forgotten.
     pub fn fail(&mut self, calls: CallList)
-        ensures plan { plan_of self.new ≡ record (plan_of self.old) { failing = calls; asked = 0 } }
+        ensures plan { plan_of self.new ≡ record (plan_of self.old) { named = record { failing = calls; calls = 0 } } }
         ensures same { OnlyPlan self.old self.new }
     {
-        self.plan.failing = calls;
-        self.plan.asked = 0;
+        self.plan.named = CallPlan::new(calls);
     }
 
     /// The disk stops at the call of that number, where the next call is number 0: that call and
@@ -143,11 +141,10 @@ impl Disk for MemDisk {
         ensures limit { IfOk result (λ n. n ≤ 2 ^ 50) }
         ensures steps { Steps file Same (mem_state self.old) (mem_state self.new) }
         ensures may_leave { MayLeave file Same (mem_state self.old) (mem_state self.new) }
-        ensures calm { OnOk result (self.new.faults.count ≡ self.old.faults.count) }
-        ensures cause { HasCause self.old.faults.count self.new.faults.count result }
+        ensures cause { Charges (λ disk. disk.faults.count) self.old self.new (IsErr result) }
         ensures answers { Answers (2 ^ 50 < length ((mem_state self.old).seen file)) self.old self.new result }
     {
-        let is_named = self.plan.call();
+        let is_named = self.plan.next_fails();
         let size = self.history.bytes(file).len() as u64;
         if is_named || size > MAX_FILE {
             self.faults.raise();
@@ -162,11 +159,11 @@ impl Disk for MemDisk {
         ensures bytes { OnOk result (out.new ≡ piece at (length out.new) ((mem_state self.old).seen file)) }
         ensures steps { Steps file Same (mem_state self.old) (mem_state self.new) }
         ensures may_leave { MayLeave file Same (mem_state self.old) (mem_state self.new) }
-        ensures calm { OnOk result (self.new.faults.count ≡ self.old.faults.count) }
-        ensures cause { HasCause self.old.faults.count self.new.faults.count result }
-        ensures answers { Answers (length ((mem_state self.old).seen file) < at + length out.new) self.old self.new result }
+        ensures cause { Charges (λ disk. disk.faults.count) self.old self.new (IsErr result) }
+        ensures answers { Answers
+            (length ((mem_state self.old).seen file) < at + length out.new) self.old self.new result }
     {
-        let is_named = self.plan.call();
+        let is_named = self.plan.next_fails();
         let bytes = self.history.bytes(file);
         let from = at as usize;
         if is_named || bytes.len() < from + out.len() {
@@ -179,15 +176,19 @@ impl Disk for MemDisk {
 
     fn write_at(&mut self, file: u32, at: u64, bytes: &[u8]) -> Result<(), DiskFailed>
         requires { at + length bytes.now ≤ 2 ^ 50 }
-        ensures written { OnOk result ((mem_state self.new).seen file ≡ put ((mem_state self.old).seen file) at bytes.now) }
-        ensures in_part { OnErr result (WroteInPart at bytes.now ((mem_state self.old).seen file) ((mem_state self.new).seen file)) }
+        ensures written { OnOk result
+            ((mem_state self.new).seen file ≡ put ((mem_state self.old).seen file) at bytes.now) }
+        ensures in_part { OnErr result
+            (WroteInPart at bytes.now ((mem_state self.old).seen file) ((mem_state self.new).seen file)) }
         ensures steps { Steps file (Torn at (length bytes.now)) (mem_state self.old) (mem_state self.new) }
-        ensures may_leave { MatchResult result (λ _. MayLeave file (Torn at (length bytes.now)) (mem_state self.old) (mem_state self.new)) (λ _. MayLeave file Same (mem_state self.old) (mem_state self.new)) }
-        ensures calm { OnOk result (self.new.faults.count ≡ self.old.faults.count) }
-        ensures cause { HasCause self.old.faults.count self.new.faults.count result }
-        ensures records { Records (Wrote file at bytes.now) (Wrote file at (take (length bytes.now / 2) bytes.now) ∷ []) self.old self.new result }
+        ensures may_leave { MatchResult result
+            (λ _. MayLeave file (Torn at (length bytes.now)) (mem_state self.old) (mem_state self.new))
+            (λ _. MayLeave file Same (mem_state self.old) (mem_state self.new)) }
+        ensures cause { Charges (λ disk. disk.faults.count) self.old self.new (IsErr result) }
+        ensures records { Records (Wrote file at bytes.now)
+            (Wrote file at (take (length bytes.now / 2) bytes.now) ∷ []) self.old self.new result }
     {
-        if self.plan.call() {
+        if self.plan.next_fails() {
             // It has written its first half, where there was memory for it.
             let _ = self
                 .history
@@ -208,12 +209,13 @@ impl Disk for MemDisk {
         ensures cut { OnOk result ((mem_state self.new).seen file ≡ take length ((mem_state self.old).seen file)) }
         ensures in_part { OnErr result (CutInPart ((mem_state self.old).seen file) ((mem_state self.new).seen file)) }
         ensures steps { Steps file (Cut length) (mem_state self.old) (mem_state self.new) }
-        ensures may_leave { MatchResult result (λ _. MayLeave file (Cut length) (mem_state self.old) (mem_state self.new)) (λ _. MayLeave file Same (mem_state self.old) (mem_state self.new)) }
-        ensures calm { OnOk result (self.new.faults.count ≡ self.old.faults.count) }
-        ensures cause { HasCause self.old.faults.count self.new.faults.count result }
+        ensures may_leave { MatchResult result
+            (λ _. MayLeave file (Cut length) (mem_state self.old) (mem_state self.new))
+            (λ _. MayLeave file Same (mem_state self.old) (mem_state self.new)) }
+        ensures cause { Charges (λ disk. disk.faults.count) self.old self.new (IsErr result) }
         ensures records { Records (CutOff file length) [] self.old self.new result }
     {
-        if self.plan.call() {
+        if self.plan.next_fails() {
             self.faults.raise();
             return Err(DiskFailed);
         }
@@ -229,12 +231,12 @@ impl Disk for MemDisk {
     fn sync(&mut self, file: u32) -> Result<(), DiskFailed>
         ensures durable { OnOk result (Only ((mem_state self.new).seen file) ((mem_state self.new).may_leave file)) }
         ensures steps { Steps file Same (mem_state self.old) (mem_state self.new) }
-        ensures others { (f : ℕ) (c : List ℕ) → ¬ (f ≡ file) → (mem_state self.old).may_leave f c → (mem_state self.new).may_leave f c }
-        ensures calm { OnOk result (self.new.faults.count ≡ self.old.faults.count) }
-        ensures cause { HasCause self.old.faults.count self.new.faults.count result }
+        ensures others { (f : ℕ) (c : List ℕ) → ¬ (f ≡ file) → (mem_state self.old).may_leave f c
+            → (mem_state self.new).may_leave f c }
+        ensures cause { Charges (λ disk. disk.faults.count) self.old self.new (IsErr result) }
         ensures records { Records (Synced file) [] self.old self.new result }
     {
-        if self.plan.call() {
+        if self.plan.next_fails() {
             self.faults.raise();
             return Err(DiskFailed);
         }

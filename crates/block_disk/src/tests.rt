@@ -8,7 +8,7 @@ const FILE: u32 = 7;
 
 const OTHER: u32 = 9;
 
-/// A disk with a file that was written and synced, and then changed in the way of the case.
+// A disk with a file that was written and synced, and then changed in the way of the case.
 fn changed(alloc: Global, case: u32) -> Result<MemDisk, Fail> {
     let mut disk = MemDisk::new(alloc);
     disk.write_at(FILE, 0, &[1, 2, 3, 4])?;
