@@ -1,8 +1,8 @@
 -- Two lists with fronts of one length, numbers with one spelling, and what is put into zeros.
-use Rattle.std.proofs.Common.{◌≡◌, ℕ, ◌+◌, ◌-◌, ◌^◌, ◌<◌, ◌≤◌, List, ◌++◌, length, take, drop, replicate, refl, sym, ap, ◌∙◌, arith}
-use Rattle.std.specs.Int.{w32, w64, to_le_bytes, from_le_bytes, to_be_bytes, from_be_bytes}
+use Rattle.std.proofs.Common.{◌≡◌, ℕ, ◌+◌, ◌-◌, ◌^◌, ◌<◌, ◌≤◌, List, [], ◌∷◌, ◌++◌, length, take, drop, replicate, refl, sym, ap, ◌∙◌, arith, append_assoc, append-nil}
+use Rattle.std.specs.Int.{w64, to_le_bytes, from_le_bytes}
 use Rattle.std.proofs.lemmas.List.{take_at, drop_at, length-append, length-take, length-drop, drop-drop, drop-replicate, take-append-drop}
-use Rattle.std.proofs.lemmas.Nat.{from_le_bytes-to_le_bytes_4, from_le_bytes-to_le_bytes_8, from_be_bytes-to_be_bytes_4, from_be_bytes-to_be_bytes_8}
+use Rattle.std.proofs.lemmas.Nat.{from_le_bytes-to_le_bytes_8}
 use Rattle.byte_fields.specs.Filled.{IsFilledTo}
 
 -- equal lists with fronts of one length have one front and one rest
@@ -12,18 +12,17 @@ split_same a b x y len e = (
   sym (drop_at a x (length b) len) ∙ ap (drop (length b)) e ∙ drop_at b y (length b) refl,
 )
 
--- a number has one spelling
-pub same_u32_le : (m n : ℕ) → m < 2 ^ 32 → n < 2 ^ 32 → to_le_bytes w32 m ≡ to_le_bytes w32 n → m ≡ n
-same_u32_le m n hm hn e = sym (from_le_bytes-to_le_bytes_4 m hm) ∙ ap (from_le_bytes w32) e ∙ from_le_bytes-to_le_bytes_4 n hn
+-- a field behind those that were read, and nothing behind the last
+pub read_more : {A : Type 0} (all front rest field behind : List A) → all ≡ front ++ rest → rest ≡ field ++ behind → all ≡ (front ++ field) ++ behind
+read_more all front rest field behind e f = e ∙ (ap (λ x. front ++ x) f ∙ sym (append_assoc front field behind))
 
+pub read_all : {A : Type 0} (all front rest : List A) → all ≡ front ++ rest → length rest ≡ 0 → all ≡ front
+read_all all front [] e none = e ∙ append-nil front
+read_all all front (x ∷ rest) e none = absurd (omega (arith, none))
+
+-- a number has one spelling
 pub same_u64_le : (m n : ℕ) → m < 2 ^ 64 → n < 2 ^ 64 → to_le_bytes w64 m ≡ to_le_bytes w64 n → m ≡ n
 same_u64_le m n hm hn e = sym (from_le_bytes-to_le_bytes_8 m hm) ∙ ap (from_le_bytes w64) e ∙ from_le_bytes-to_le_bytes_8 n hn
-
-pub same_u32_be : (m n : ℕ) → m < 2 ^ 32 → n < 2 ^ 32 → to_be_bytes w32 m ≡ to_be_bytes w32 n → m ≡ n
-same_u32_be m n hm hn e = sym (from_be_bytes-to_be_bytes_4 m hm) ∙ ap (from_be_bytes w32) e ∙ from_be_bytes-to_be_bytes_4 n hn
-
-pub same_u64_be : (m n : ℕ) → m < 2 ^ 64 → n < 2 ^ 64 → to_be_bytes w64 m ≡ to_be_bytes w64 n → m ≡ n
-same_u64_be m n hm hn e = sym (from_be_bytes-to_be_bytes_8 m hm) ∙ ap (from_be_bytes w64) e ∙ from_be_bytes-to_be_bytes_8 n hn
 
 -- a write behind what is filled fills as much more
 pub filled_more : (old bytes new : List ℕ) (at size : ℕ) → IsFilledTo old at size → at + length bytes ≤ size

@@ -52,6 +52,18 @@ impl<'a> FieldReader<'a> {
         }
     }
 
+    /// The next `count` bytes.
+    pub fn take_slice(&mut self, count: usize) -> &'a [u8]
+        requires { count ≤ length self.old }
+        ensures front { self.old ≡ result.now ++ self.new }
+        ensures left { length self.new + count ≡ length self.old }
+        ensures size { length result.now ≡ count }
+    {
+        let (front, behind) = self.rest.split_at(count);
+        self.rest = behind;
+        front
+    }
+
     /// The next four bytes as a number, the lowest byte first.
     pub fn take_u32_le(&mut self) -> u32
         requires { 4 ≤ length self.old }

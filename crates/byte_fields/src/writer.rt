@@ -1,5 +1,5 @@
 ghost use Rattle.std.specs.Prelude.{◌≡◌, ℕ, ◌+◌, ◌-◌, ◌≤◌, List, [], ◌∷◌, ◌++◌, length, take, drop, replicate};
-ghost use Rattle.std.specs.Int.{w16, w32, w64, to_le_bytes, to_be_bytes};
+ghost use Rattle.std.specs.Int.{w32, w64, to_le_bytes};
 ghost use Rattle.byte_fields.specs.Filled.{IsFilledTo};
 
 use std::marker::Model;
@@ -62,30 +62,6 @@ impl<const N: usize> FieldWriter<N> {
         ensures { self.new ≡ self.old ++ to_le_bytes w64 number }
     {
         self.put_bytes(&number.to_le_bytes());
-    }
-
-    /// Puts a number in two bytes, the highest byte first.
-    pub fn put_u16_be(&mut self, number: u16)
-        requires { length self.old + 2 ≤ N }
-        ensures { self.new ≡ self.old ++ to_be_bytes w16 number }
-    {
-        self.put_bytes(&number.to_be_bytes());
-    }
-
-    /// Puts a number in four bytes, the highest byte first.
-    pub fn put_u32_be(&mut self, number: u32)
-        requires { length self.old + 4 ≤ N }
-        ensures { self.new ≡ self.old ++ to_be_bytes w32 number }
-    {
-        self.put_bytes(&number.to_be_bytes());
-    }
-
-    /// Puts a number in eight bytes, the highest byte first.
-    pub fn put_u64_be(&mut self, number: u64)
-        requires { length self.old + 8 ≤ N }
-        ensures { self.new ≡ self.old ++ to_be_bytes w64 number }
-    {
-        self.put_bytes(&number.to_be_bytes());
     }
 
     /// The block: what was put, and zeros behind it.

@@ -1,12 +1,11 @@
 -- What is spelled as the data of INFO is read as its name.
-use Rattle.std.proofs.Common.{◌≡◌, ℕ, ◌+◌, ◌*◌, ◌^◌, ◌<◌, ◌≤◌, List, ◌++◌, length, take, drop, None, Some, refl, sym, ap, ◌∙◌, arith, length-append, append_assoc}
-use Rattle.std.proofs.lemmas.List.{take_at, drop_at, length-drop, length-take-le, take-append-drop}
+use Rattle.std.proofs.Common.{◌≡◌, ℕ, ◌+◌, ◌*◌, ◌^◌, ◌<◌, List, ◌++◌, length, take, drop, None, Some, refl, sym, ap, ◌∙◌, arith, length-append, append_assoc}
+use Rattle.std.proofs.lemmas.List.{take_at, drop_at}
 use Rattle.std.proofs.lemmas.Bool.{eq-eqb, ne_eqb, cond-true, cond-false}
 use Rattle.std.proofs.lemmas.Nat.{from_be_bytes-to_be_bytes_2, from_be_bytes-to_be_bytes_4}
-use Rattle.std.specs.Int.{Width, w16, w32, to_be_bytes, from_be_bytes}
-use Rattle.nbd_wire.specs.Numbers.{number_at}
+use Rattle.std.specs.Int.{w16, w32, to_be_bytes, from_be_bytes}
+use Rattle.byte_fields.proofs.Fronts.{read_more}
 use Rattle.nbd_wire.specs.Infos.{InfoOf, info_name, number_in}
-use Rattle.nbd_wire.proofs.FieldLaws.{then}
 
 -- the lengths add up, or no name is read
 pub info_name-some : (bytes : List ℕ) (len count : ℕ) → number_in w32 0 bytes ≡ len → number_in w16 (4 + len) bytes ≡ count → length bytes ≡ 6 + len + 2 * count → info_name bytes ≡ Some (take len (drop 4 bytes))
@@ -25,11 +24,6 @@ info_name-none bytes len count e f h =
 
 pub info_name-short : (bytes : List ℕ) → length bytes < 6 + number_in w32 0 bytes → info_name bytes ≡ None
 info_name-short bytes h = info_name-none bytes (number_in w32 0 bytes) (number_in w16 (4 + number_in w32 0 bytes) bytes) refl refl (λ q. omega (arith, q))
-
--- the number that was read
-pub number_in-read : (w : Width) (at n : ℕ) (bytes : List ℕ) → n ≡ number_at w at bytes → number_in w at bytes ≡ n
-unfolding number_in
-number_in-read w at n bytes e = sym e
 
 -- the numbers that stand in what is spelled
 number_in-first : (n : ℕ) (rest : List ℕ) → n < 2 ^ 32 → number_in w32 0 (to_be_bytes w32 n ++ rest) ≡ n
@@ -54,25 +48,26 @@ info_name-of bytes name h =
     let whole : length bytes ≡ 6 + len + 2 * h.count = ap length grouped ∙ length-append (lead ++ name) (mid ++ h.wanted) ∙ omega (arith, length-append lead name, length-append mid h.wanted, h.counted) in
     info_name-some bytes len h.count first second whole ∙ ap (λ xs. Some (take len xs)) (ap (drop 4) nested ∙ drop_at lead (name ++ (mid ++ h.wanted)) 4 refl) ∙ ap Some (take_at name (mid ++ h.wanted) len refl)
 
--- the parts of data whose lengths add up
-pub info_spelled : (bs lead mid : List ℕ) (len : ℕ) → lead ≡ take 4 bs → mid ≡ take 2 (drop (4 + len) bs)
-    → bs ≡ lead ++ take len (drop 4 bs) ++ mid ++ drop (6 + len) bs
-info_spelled bs lead mid len e f =
-    sym (ap (λ xs. xs ++ drop (6 + len) bs) (then bs (lead ++ take len (drop 4 bs)) mid (4 + len) 2 (then bs lead (take len (drop 4 bs)) 4 len e refl) f)
-    ∙ ap (λ n. take (4 + len + 2) bs ++ drop n bs) (omega arith) ∙ take-append-drop (4 + len + 2) bs)
+-- the length of the name, and the count of numbers behind it, as they were read
+pub length_read : (bytes a : List ℕ) (len : ℕ) → len < 2 ^ 32 → bytes ≡ to_be_bytes w32 len ++ a → number_in w32 0 bytes ≡ len
+length_read bytes a len short p = ap (number_in w32 0) p ∙ number_in-first len a short
 
-pub InfoOf-read : (bs : List ℕ) (len count k : ℕ) → k ≡ len → to_be_bytes w32 len ≡ take 4 bs → to_be_bytes w16 count ≡ take 2 (drop (4 + len) bs)
-    → length bs ≡ 6 + len + 2 * count → len < 2 ^ 32 → count < 2 ^ 16 → InfoOf bs (take k (drop 4 bs))
-InfoOf-read bs len count k same e f h short few =
-    let fits : k ≤ length (drop 4 bs) = omega (arith, length-drop 4 bs) in
-    let long : length (take k (drop 4 bs)) ≡ k = length-take-le k (drop 4 bs) fits in
-    let lead : to_be_bytes w32 (length (take k (drop 4 bs))) ≡ take 4 bs = ap (to_be_bytes w32) (long ∙ same) ∙ e in
-    let mid : to_be_bytes w16 count ≡ take 2 (drop (4 + k) bs) = f ∙ ap (λ n. take 2 (drop (4 + n) bs)) (sym same) in
-    record {
-      count = count;
-      wanted = drop (6 + k) bs;
-      spelled = info_spelled bs (to_be_bytes w32 (length (take k (drop 4 bs)))) (to_be_bytes w16 count) k lead mid;
-      short = omega (arith, long);
-      few = few;
-      counted = omega (arith, length-drop (6 + k) bs);
-    }
+pub count_read : (bytes a name b c : List ℕ) (len count : ℕ) → count < 2 ^ 16 → length name ≡ len
+    → bytes ≡ to_be_bytes w32 len ++ a → a ≡ name ++ b → b ≡ to_be_bytes w16 count ++ c → number_in w16 (4 + len) bytes ≡ count
+count_read bytes a name b c len count few long p q s =
+    let lead = to_be_bytes w32 len in
+    let grouped : bytes ≡ (lead ++ name) ++ (to_be_bytes w16 count ++ c) = read_more bytes lead a name b p q ∙ ap (λ x. (lead ++ name) ++ x) s in
+    ap (number_in w16 (4 + len)) grouped ∙ number_in-after (lead ++ name) c (4 + len) count (length-append lead name ∙ ap (λ n. 4 + n) long) few
+
+-- the data as they were read
+pub info_read : (bytes a name b c : List ℕ) (len count : ℕ) → len < 2 ^ 32 → count < 2 ^ 16 → length name ≡ len → length c ≡ 2 * count
+    → bytes ≡ to_be_bytes w32 len ++ a → a ≡ name ++ b → b ≡ to_be_bytes w16 count ++ c → InfoOf bytes name
+info_read bytes a name b c len count short few long counted p q s = record {
+  count = count;
+  wanted = c;
+  spelled = read_more bytes (to_be_bytes w32 (length name) ++ name) b (to_be_bytes w16 count) c
+      (read_more bytes (to_be_bytes w32 (length name)) a name b (p ∙ ap (λ n. to_be_bytes w32 n ++ a) (sym long)) q) s;
+  short = omega (arith, short, long);
+  few = few;
+  counted = counted;
+}

@@ -1,4 +1,3 @@
-mod FieldLaws
 pub mod InfoLaws
 pub mod OptionLaws
 pub mod RequestLaws

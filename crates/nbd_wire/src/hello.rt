@@ -1,7 +1,8 @@
 ghost use Rattle.std.specs.Prelude.{◌≡◌, IfSome, Some};
 ghost use Rattle.nbd_wire.specs.Hellos.{HelloOf, hello_at, server_hello};
 
-use crate::fields::{join, u32_at};
+use crate::fields::join;
+use byte_fields::FieldReader;
 
 /// What a client says first.
 #[derive(Clone, Copy, Debug, PartialEq, Eq)]
@@ -16,7 +17,8 @@ pub fn decode_hello(bytes: &[u8; 4]) -> Option<Hello>
     ensures found { IfSome result (HelloOf bytes.now) }
     ensures only { (hello : Hello) → HelloOf bytes.now hello → result ≡ Some hello }
 {
-    match u32_at(bytes, 0) {
+    let mut reader = FieldReader::new(bytes);
+    match reader.take_u32_be() {
         3 => Some(Hello { no_zeroes: true }),
         1 => Some(Hello { no_zeroes: false }),
         _ => None,

@@ -2,7 +2,8 @@ ghost use Rattle.std.specs.Prelude.{◌≡◌, ◌^◌, ◌≤◌, ℕ, List, If
 ghost use Rattle.std.specs.Option.{option_copied};
 ghost use Rattle.nbd_wire.specs.Infos.{InfoOf, info_name, info_export_bytes, info_block_size_bytes};
 
-use crate::fields::{join, u16_at, u32_at};
+use crate::fields::join;
+use byte_fields::FieldReader;
 
 /// The name in the data of INFO or GO. None where the lengths do not add up.
 pub fn decode_info(bytes: &[u8]) -> Option<&[u8]>
@@ -13,15 +14,17 @@ pub fn decode_info(bytes: &[u8]) -> Option<&[u8]>
     if bytes.len() < 6 {
         return None;
     }
-    let len = u32_at(bytes, 0) as usize;
+    let mut reader = FieldReader::new(bytes);
+    let len = reader.take_u32_be() as usize;
     if bytes.len() - 6 < len {
         return None;
     }
-    let count = u16_at(bytes, 4 + len) as usize;
-    if bytes.len() != 6 + len + 2 * count {
+    let name = reader.take_slice(len);
+    let count = usize::from(reader.take_u16_be());
+    if reader.rest().len() != 2 * count {
         return None;
     }
-    Some(&bytes[4..4 + len])
+    Some(name)
 }
 
 /// The data of INFO export: the size of the export and its flags.

@@ -1,7 +1,8 @@
 ghost use Rattle.std.specs.Prelude.{◌≡◌, ◌^◌, ◌≤◌, IfSome, Some};
 ghost use Rattle.nbd_wire.specs.Options.{OptionHeadOf, option_at, option_reply_bytes, name_reply_bytes};
 
-use crate::fields::{join, u32_at, u64_at};
+use crate::fields::join;
+use byte_fields::FieldReader;
 
 // The text IHAVEOPT.
 const OPTION_MAGIC: u64 = 0x4948_4156_454F_5054;
@@ -16,19 +17,18 @@ pub struct OptionHead {
 }
 
 /// None where the bytes begin with another magic word.
-#[tactic(auto, unfolding(crate::specs::Options::option_at))]
 pub fn decode_option(bytes: &[u8; 16]) -> Option<OptionHead>
     ensures reads { result ≡ option_at bytes.now }
     ensures found { IfSome result (OptionHeadOf bytes.now) }
     ensures only { (head : OptionHead) → OptionHeadOf bytes.now head → result ≡ Some head }
 {
-    if u64_at(bytes, 0) != OPTION_MAGIC {
+    let mut reader = FieldReader::new(bytes);
+    if reader.take_u64_be() != OPTION_MAGIC {
         return None;
     }
-    Some(OptionHead {
-        option: u32_at(bytes, 8),
-        length: u32_at(bytes, 12),
-    })
+    let option = reader.take_u32_be();
+    let length = reader.take_u32_be();
+    Some(OptionHead { option, length })
 }
 
 /// The head of a reply to an option, with the type of the reply and the length of its data.

@@ -1,7 +1,8 @@
 ghost use Rattle.std.specs.Prelude.{◌≡◌, IfSome, Some};
 ghost use Rattle.nbd_wire.specs.Requests.{RequestHeadOf, request_at, simple_reply_bytes};
 
-use crate::fields::{join, u16_at, u32_at, u64_at};
+use crate::fields::join;
+use byte_fields::FieldReader;
 
 const REQUEST_MAGIC: u32 = 0x2560_9513;
 
@@ -18,21 +19,26 @@ pub struct Request {
 }
 
 /// None where the bytes begin with another magic number.
-#[tactic(auto, unfolding(crate::specs::Requests::request_at))]
 pub fn decode_request(bytes: &[u8; 28]) -> Option<Request>
     ensures reads { result ≡ request_at bytes.now }
     ensures found { IfSome result (RequestHeadOf bytes.now) }
     ensures only { (request : Request) → RequestHeadOf bytes.now request → result ≡ Some request }
 {
-    if u32_at(bytes, 0) != REQUEST_MAGIC {
+    let mut reader = FieldReader::new(bytes);
+    if reader.take_u32_be() != REQUEST_MAGIC {
         return None;
     }
+    let flags = reader.take_u16_be();
+    let command = reader.take_u16_be();
+    let cookie = reader.take_u64_be();
+    let offset = reader.take_u64_be();
+    let length = reader.take_u32_be();
     Some(Request {
-        flags: u16_at(bytes, 4),
-        command: u16_at(bytes, 6),
-        cookie: u64_at(bytes, 8),
-        offset: u64_at(bytes, 16),
-        length: u32_at(bytes, 24),
+        flags,
+        command,
+        cookie,
+        offset,
+        length,
     })
 }
 

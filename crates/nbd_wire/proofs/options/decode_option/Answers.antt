@@ -1,30 +1,27 @@
-use Rattle.std.proofs.Common.{rules, ◌≡◌, ℕ, length, take, None, Some, ◌∙◌, subst, arith}
-use Rattle.std.specs.Int.{w32, w64, to_be_bytes}
-use Rattle.nbd_wire.specs.Options.{option_at, option_bytes}
-use Rattle.nbd_wire.proofs.OptionLaws.{option_at-of, joined_3}
+use Rattle.std.proofs.Common.{◌≡◌, ◌∙◌, length, sym, ap, arith}
+use Rattle.nbd_wire.proofs.OptionLaws.{option_at-of, option_at-other, option_read}
 use Rattle.nbd_wire.proofs.options.decode_option.Goals as goal
 
-pub returns-then-u64_at-ne-OPTION_MAGIC-clause-only : goal.returns-then-u64_at-ne-OPTION_MAGIC-clause-only
-unfolding option_at
-returns-then-u64_at-ne-OPTION_MAGIC-clause-only c head h =
-    let e : None ≡ option_at c.args.bytes.now = search rules in e ∙ option_at-of c.args.bytes.now head h
+pub returns-then-take_u64_be-ne-OPTION_MAGIC-clause-reads : goal.returns-then-take_u64_be-ne-OPTION_MAGIC-clause-reads
+returns-then-take_u64_be-ne-OPTION_MAGIC-clause-reads c =
+    sym (option_at-other c.args.bytes.now c.take_u64_be.new.self c.take_u64_be.result (sym c.new-reader.ensures ∙ c.take_u64_be.ensures.front)
+    c.take_u64_be.ensures.below c.if-take_u64_be-ne-OPTION_MAGIC.true)
 
-pub returns-clause-only : goal.returns-clause-only
-unfolding option_at
-returns-clause-only c head h =
-    let e : Some (record { option = c.u32_at.result; length = c.u32_at-2.result }) ≡ option_at c.args.bytes.now = search rules in
-    e ∙ option_at-of c.args.bytes.now head h
+pub returns-then-take_u64_be-ne-OPTION_MAGIC-clause-only : goal.returns-then-take_u64_be-ne-OPTION_MAGIC-clause-only
+returns-then-take_u64_be-ne-OPTION_MAGIC-clause-only c head h =
+    returns-then-take_u64_be-ne-OPTION_MAGIC-clause-reads c ∙ option_at-of c.args.bytes.now head h
 
 pub returns-clause-found : goal.returns-clause-found
-unfolding option_bytes
-returns-clause-found c =
-    let bs = c.args.bytes.now in
-    let magic : c.u64_at.result ≡ 0x4948_4156_454F_5054 = omega arith in
-    let whole : length bs ≡ 16 = omega arith in
-    let P : ℕ → Type 0 = λ n. to_be_bytes w64 n ≡ take 8 bs in
-    record {
-      spelled = joined_3 bs (to_be_bytes w64 0x4948_4156_454F_5054) (to_be_bytes w32 c.u32_at.result) (to_be_bytes w32 c.u32_at-2.result)
-          (subst P magic c.u64_at.ensures.spelled) c.u32_at.ensures.spelled c.u32_at-2.ensures.spelled whole;
-      option = omega arith;
-      length = omega arith;
-    }
+returns-clause-found c = let whole : length c.new-reader.result ≡ 16 = ap length c.new-reader.ensures ∙ c.told-bytes in record {
+  spelled = option_read c.args.bytes.now c.take_u64_be.new.self c.take_u32_be-option.new.self c.take_u32_be-length.new.self c.take_u64_be.result
+      (record { option = c.take_u32_be-option.result; length = c.take_u32_be-length.result }) c.if-take_u64_be-ne-OPTION_MAGIC.false
+      (sym c.new-reader.ensures ∙ c.take_u64_be.ensures.front) c.take_u32_be-option.ensures.front c.take_u32_be-length.ensures.front (omega arith);
+  option = c.take_u32_be-option.ensures.below;
+  length = c.take_u32_be-length.ensures.below;
+}
+
+pub returns-clause-reads : goal.returns-clause-reads
+returns-clause-reads c = sym (option_at-of c.args.bytes.now (record { option = c.take_u32_be-option.result; length = c.take_u32_be-length.result }) (returns-clause-found c))
+
+pub returns-clause-only : goal.returns-clause-only
+returns-clause-only c head h = returns-clause-reads c ∙ option_at-of c.args.bytes.now head h
