@@ -11,14 +11,14 @@ use Rattle.flat_image.specs.declared.stands.Entry.{Entry}
 use Rattle.flat_image.specs.Entries.{entry}
 use Rattle.flat_image.specs.History.{History, now, keeps, kept}
 use Rattle.flat_image.specs.HistoryLaws.{LeavesNow}
-use Rattle.flat_image.specs.Left.{stand, put_top, Kept, moves_layers, Blamed, Advances, Left}
+use Rattle.flat_image.specs.Left.{stand, put_top, Kept, ends_blame, Blamed, Advances, Left}
 use Rattle.flat_image.proofs.HistoryLaws.{kept-reaches}
 
 abbrev IsUnkept : Entry Act → Type 0
 IsUnkept e = keeps e.act ≡ false
 
-abbrev StaysPut : Entry Act → Type 0
-StaysPut e = moves_layers e.act ≡ false
+abbrev StaysBlamed : Entry Act → Type 0
+StaysBlamed e = ends_blame e.act ≡ false
 
 -- all of a history has all that it keeps
 pub Kept-all : (h : History) → Kept h h
@@ -32,19 +32,19 @@ Kept-entry h front number act is k = record {
   unkept = All-append IsUnkept k.rest (entry number act ∷ []) k.unkept (All-cons IsUnkept (entry number act) [] is (All-nil IsUnkept));
 }
 
--- a failed step is to blame still where an entry follows that leaves the layers
-pub Blamed-entry : (h : History) (asked : Asked) (number : ℕ) (act : Act) → moves_layers act ≡ false → Blamed h asked → Blamed (h ++ entry number act ∷ []) asked
+-- a failed step is to blame still where an entry follows that does not end it
+pub Blamed-entry : (h : History) (asked : Asked) (number : ℕ) (act : Act) → ends_blame act ≡ false → Blamed h asked → Blamed (h ++ entry number act ∷ []) asked
 Blamed-entry h asked number act is b = record {
   front = b.front;
   number = b.number;
   rest = b.rest ++ entry number act ∷ [];
   splits = ap (λ l. l ++ entry number act ∷ []) b.splits ∙ append_assoc b.front (entry b.number (Fault asked) ∷ b.rest) (entry number act ∷ []);
-  since = All-append StaysPut b.rest (entry number act ∷ []) b.since (All-cons StaysPut (entry number act) [] is (All-nil StaysPut));
+  since = All-append StaysBlamed b.rest (entry number act ∷ []) b.since (All-cons StaysBlamed (entry number act) [] is (All-nil StaysBlamed));
 }
 
 -- a failed step that was noted last is to blame
 pub Blamed-last : (h : History) (asked : Asked) (number : ℕ) → Blamed (h ++ entry number (Fault asked) ∷ []) asked
-Blamed-last h asked number = record { front = h; number = number; rest = []; splits = refl; since = All-nil StaysPut }
+Blamed-last h asked number = record { front = h; number = number; rest = []; splits = refl; since = All-nil StaysBlamed }
 
 -- a crash may leave what the history made
 pub Left-now : (base : Base) (h : History) → Left base h (now base h)

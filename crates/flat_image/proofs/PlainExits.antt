@@ -13,7 +13,7 @@ use Rattle.flat_image.specs.Sectors.{sector_count, put_at}
 use Rattle.flat_image.specs.Entries.{entry}
 use Rattle.flat_image.specs.History.{History, reply, rows_taken, sectors_taken, used_sectors, HasRoom, IsOver, IsWithin}
 use Rattle.flat_image.specs.Base.{fresh}
-use Rattle.flat_image.specs.Ports.{PortState, IsWorn, Notes, NotesLast, Reads, ReadFails, Makes, ChangeFails, Flushes, FlushFails, HasRoomFor, IsOverFor}
+use Rattle.flat_image.specs.Ports.{PortState, IsWorn, ChargesPort, Notes, NotesLast, Reads, ReadFails, Makes, ChangeFails, Flushes, FlushFails, HasRoomFor, IsOverFor}
 use Rattle.flat_image.specs.PlainPorts.{IsPlain, counted, AsPlanned, NoteFails}
 use Rattle.flat_image.specs.PlainParts.{PlainView, port_in, IsPlainView, Answers}
 use Rattle.flat_image.proofs.PlainLaws.{plain-read, plain-flush, plain-fault, plain-write, plain-zero, plain-reply}
@@ -24,7 +24,7 @@ noted_view v plan seen faults = record v { plan = plan; seen = seen; faults = fa
 
 -- a port with these entries and faults
 abbrev at_state : PlainView → History → ℕ → PortState
-at_state v seen faults = record { base = fresh v.sectors []; first = 0; number = 0; seen = seen; faults = faults }
+at_state v seen faults = record { home = []; tells = true; base = fresh v.sectors []; first = 0; number = 0; seen = seen; faults = faults }
 
 -- nothing was noted, by the port alone
 alone_none : (v : PlainView) → (acts : List Act) × (v.seen ≡ v.seen ++ map (entry 0) acts)
@@ -98,43 +98,54 @@ is_worn v plain full = omega (arith, plain.limit)
 rises : (n : ℕ) → n < n + 1
 rises n = omega arith
 
+open_still : (v : PlainView) → length v.seen < 2 ^ 62 → ¬ IsWorn (port_in v)
+open_still v below worn = omega (arith, worn, below)
+
+-- the count of faults is as it was, or it is one more and the call failed
+calm_still : {T : Type 0} (old new : PortState) (result : Result T PortFault) → new.faults ≡ old.faults → (IsErrOf result Failed → ⊥) → ChargesPort old new result
+calm_still old new result same other = record { later = omega arith; failed = λ is. absurd (other is); only = λ rose. absurd (omega (arith, rose, same)) }
+
+risen : {T : Type 0} (old new : PortState) → old.faults < new.faults → ChargesPort {T = T} old new (Err Failed)
+risen old new rose = record { later = omega arith; failed = λ is. rose; only = λ more. refl }
+
 -- all entries were made before the call
 module _ {T : Type 0} (v : PlainView) (plan : PlannedCalls) (plain : IsPlainView v) (is : plan ≡ counted v.plan) where
-  refused : (fault : PortFault) (Done : Type 0) (Fails : PortState → PortFault → Type 0) → Fails (port_in v) fault → AsPlanned {T = T} v.plan (Err fault)
+  refused : (fault : PortFault) (Done : Type 0) (Fails : PortState → PortFault → Type 0) → Fails (port_in v) fault → (IsErrOf {T = T} (Err fault) Failed → ⊥) → AsPlanned {T = T} v.plan (Err fault)
       → (IsWorn (port_in v) → IsErrOf {T = T} (Err fault) Worn)
       → Answers {T = T} v (noted_view v plan v.seen v.faults) (Err fault) Done (Fails (port_in (noted_view v plan v.seen v.faults)))
-  refused fault Done Fails fails planned worn =
+  refused fault Done Fails fails other planned worn =
       moved (λ p s f. Answers {T = T} v (noted_view v p s f) (Err fault) Done (Fails (port_in (noted_view v p s f)))) is refl refl
-      (record { plain = plain; counts = record { sectors = refl; alone = alone_none v; plan = refl; planned = planned }; answer = fails; worn = worn })
+      (record { plain = plain; counts = record { sectors = refl; alone = alone_none v; plan = refl; planned = planned }; answer = fails; cause = calm_still {T = T} (port_in v) (port_in v) (Err fault) refl other; worn = worn })
 
   pub read-worn : (at count : ℕ) (Done : Type 0) → 2 ^ 62 ≤ length v.seen
       → Answers {T = T} v (noted_view v plan v.seen v.faults) (Err Worn) Done (ReadFails (port_in v) (port_in (noted_view v plan v.seen v.faults)) at count)
   read-worn at count Done full =
-      refused Worn Done (λ new. ReadFails (port_in v) new at count) (is_worn v plain full, inl (notes_none v)) (planned_worn v.plan) (λ worn. refl)
+      refused Worn Done (λ new. ReadFails (port_in v) new at count) (is_worn v plain full, inl (notes_none v)) (λ e. cc) (planned_worn v.plan) (λ worn. refl)
 
   pub change-worn : (act : Act) (Done : Type 0) → 2 ^ 62 ≤ length v.seen
       → Answers {T = T} v (noted_view v plan v.seen v.faults) (Err Worn) Done (ChangeFails (port_in v) (port_in (noted_view v plan v.seen v.faults)) act)
   change-worn act Done full =
-      refused Worn Done (λ new. ChangeFails (port_in v) new act) (is_worn v plain full, notes_none v) (planned_worn v.plan) (λ worn. refl)
+      refused Worn Done (λ new. ChangeFails (port_in v) new act) (is_worn v plain full, notes_none v) (λ e. cc) (planned_worn v.plan) (λ worn. refl)
 
   pub flush-worn : (Done : Type 0) → 2 ^ 62 ≤ length v.seen
       → Answers {T = T} v (noted_view v plan v.seen v.faults) (Err Worn) Done (FlushFails true (port_in v) (port_in (noted_view v plan v.seen v.faults)))
   flush-worn Done full =
-      refused Worn Done (FlushFails true (port_in v)) (is_worn v plain full, notes_none v) (planned_worn v.plan) (λ worn. refl)
+      refused Worn Done (FlushFails true (port_in v)) (is_worn v plain full, notes_none v) (λ e. cc) (planned_worn v.plan) (λ worn. refl)
 
   pub change-full : (act : Act) (fault : PortFault) (Done : Type 0) → length v.seen < 2 ^ 62
       → (fault ≡ Full v.rows v.filled) × IsOver (v.rows + rows_taken act) (v.filled + sectors_taken act)
       → Answers {T = T} v (noted_view v plan v.seen v.faults) (Err fault) Done (ChangeFails (port_in v) (port_in (noted_view v plan v.seen v.faults)) act)
   change-full act fault Done below over =
       refused fault Done (λ new. ChangeFails (port_in v) new act)
-      (subst (λ f. ChangeFails (port_in v) (port_in v) act f) (sym over.0) (over_for v act plain over.1, notes_none v, plain.rows_are, plain.filled_are))
+      (subst (λ f. ChangeFails (port_in v) (port_in v) act f) (sym over.0) (open_still v below, over_for v act plain over.1, notes_none v, plain.rows_are, plain.filled_are))
+      (λ e. let full = over.0 in cc)
       (subst (λ f. AsPlanned {T = T} v.plan (Err f)) (sym over.0) (planned_full v.plan v.rows v.filled))
       (not_worn v (Err fault) below)
 
   pub change-memory : (act : Act) (Done : Type 0) → length v.seen < 2 ^ 62 → HasRoom (v.rows + rows_taken act) (v.filled + sectors_taken act)
       → Answers {T = T} v (noted_view v plan v.seen v.faults) (Err Memory) Done (ChangeFails (port_in v) (port_in (noted_view v plan v.seen v.faults)) act)
   change-memory act Done below room =
-      refused Memory Done (λ new. ChangeFails (port_in v) new act) (room_for v act plain room, notes_none v) (planned_memory v.plan) (not_worn v (Err Memory) below)
+      refused Memory Done (λ new. ChangeFails (port_in v) new act) (open_still v below, room_for v act plain room, notes_none v) (λ e. cc) (planned_memory v.plan) (not_worn v (Err Memory) below)
 
 -- the note was refused
 module _ {T : Type 0} (v : PlainView) (plan : PlannedCalls) (plain : IsPlainView v) (is : plan ≡ counted v.plan)
@@ -146,13 +157,14 @@ module _ {T : Type 0} (v : PlainView) (plan : PlannedCalls) (plain : IsPlainView
       → Answers {T = T} v (noted_view v plan seen faults) (Err fault) Done (Fails (port_in (noted_view v plan seen faults)))
   note_refused Memory Done Fails memory failed h =
       moved (λ p s f. Answers {T = T} v (noted_view v p s f) (Err Memory) Done (Fails (port_in (noted_view v p s f)))) is h.0 h.1
-      (record { plain = plain; counts = record { sectors = refl; alone = alone_none v; plan = refl; planned = planned_memory v.plan }; answer = memory; worn = not_worn v (Err Memory) below })
+      (record { plain = plain; counts = record { sectors = refl; alone = alone_none v; plan = refl; planned = planned_memory v.plan }; answer = memory; cause = calm_still {T = T} (port_in v) (port_in v) (Err Memory) refl (λ e. cc); worn = not_worn v (Err Memory) below })
   note_refused Failed Done Fails memory failed h =
       moved (λ p s f. Answers {T = T} v (noted_view v p s f) (Err Failed) Done (Fails (port_in (noted_view v p s f)))) is h.1 h.2
       (record {
         plain = plain-fault v.sectors v.bytes v.seen v.rows v.filled plain below;
         counts = record { sectors = refl; alone = (Fault Nothing ∷ [], refl); plan = refl; planned = planned_failed v.plan fails h.0 named };
         answer = failed;
+        cause = risen {T = T} (port_in v) (at_state v (v.seen ++ entry 0 (Fault Nothing) ∷ []) (v.faults + 1)) (rises v.faults);
         worn = not_worn v (Err Failed) below;
       })
   note_refused (Full rows sectors) Done Fails memory failed h = absurd h
@@ -161,20 +173,20 @@ module _ {T : Type 0} (v : PlainView) (plan : PlannedCalls) (plain : IsPlainView
   pub read-refused : (at count : ℕ) (fault : PortFault) (Done : Type 0) → NoteFails fails v.seen seen v.faults faults fault
       → Answers {T = T} v (noted_view v plan seen faults) (Err fault) Done (ReadFails (port_in v) (port_in (noted_view v plan seen faults)) at count)
   read-refused at count fault Done h =
-      note_refused fault Done (λ new. ReadFails (port_in v) new at count) (inl (notes_none v))
+      note_refused fault Done (λ new. ReadFails (port_in v) new at count) (open_still v below, inl (notes_none v))
       (rises v.faults, inl (notes_one v (Fault Nothing) (v.faults + 1) below (omega arith))) h
 
   pub change-refused : (act : Act) (fault : PortFault) (Done : Type 0) → HasRoom (v.rows + rows_taken act) (v.filled + sectors_taken act)
       → NoteFails fails v.seen seen v.faults faults fault
       → Answers {T = T} v (noted_view v plan seen faults) (Err fault) Done (ChangeFails (port_in v) (port_in (noted_view v plan seen faults)) act)
   change-refused act fault Done room h =
-      note_refused fault Done (λ new. ChangeFails (port_in v) new act) (room_for v act plain room, notes_none v)
+      note_refused fault Done (λ new. ChangeFails (port_in v) new act) (open_still v below, room_for v act plain room, notes_none v)
       (rises v.faults, notes_last v (Fault Nothing) act (v.faults + 1) below (omega arith) (room_for v act plain room)) h
 
   pub flush-refused : (fault : PortFault) (Done : Type 0) → NoteFails fails v.seen seen v.faults faults fault
       → Answers {T = T} v (noted_view v plan seen faults) (Err fault) Done (FlushFails true (port_in v) (port_in (noted_view v plan seen faults)))
   flush-refused fault Done h =
-      note_refused fault Done (FlushFails true (port_in v)) (refl, notes_none v)
+      note_refused fault Done (FlushFails true (port_in v)) (open_still v below, refl, notes_none v)
       (rises v.faults, notes_one v (Fault Nothing) (v.faults + 1) below (omega arith)) h
 
 -- the call succeeded
@@ -199,10 +211,11 @@ module _ (v : PlainView) (plan : PlannedCalls) (plain : IsPlainView v) (is : pla
           before = [];
           behind = [];
           seen = ap (λ l. l ++ entry 0 (Read at (length old / 512)) ∷ []) (sym (append-nil v.seen));
-          sectors = taken ∙ (ap (λ k. take k (drop (512 * at) v.bytes)) within.whole
+          sectors = λ told. taken ∙ (ap (λ k. take k (drop (512 * at) v.bytes)) within.whole
               ∙ (plain-reply v.sectors v.bytes v.seen v.rows v.filled at (length old / 512) plain
               ∙ ap (λ (l : History). reply (fresh v.sectors []) l at (length old / 512)) (sym (append-nil v.seen))));
         };
+        cause = calm_still {T = Unit {0}} _ _ (Ok tt) refl (λ e. cc);
         worn = not_worn v (Ok tt) below;
       }))
 
@@ -221,6 +234,7 @@ module _ (v : PlainView) (plan : PlannedCalls) (plain : IsPlainView v) (is : pla
           before = [];
           seen = ap (λ l. l ++ entry 0 Flush ∷ []) (sym (append-nil v.seen));
         };
+        cause = calm_still {T = Unit {0}} _ _ (Ok tt) refl (λ e. cc);
         worn = not_worn v (Ok tt) below;
       })
 
@@ -241,6 +255,7 @@ module _ (v : PlainView) (plan : PlannedCalls) (plain : IsPlainView v) (is : pla
             (plain-write v.sectors v.bytes v.seen v.rows v.filled at new plain below within room)));
         counts = record { sectors = refl; alone = ((Write at new) ∷ [], refl); plan = refl; planned = planned_ok v.plan fails tt noted.0 named };
         answer = notes_last v (Write at new) (Write at new) v.faults below (omega arith) (room_for v (Write at new) plain room);
+        cause = calm_still {T = Unit {0}} _ _ (Ok tt) refl (λ e. cc);
         worn = not_worn v (Ok tt) below;
       })
 
@@ -260,6 +275,7 @@ module _ (v : PlainView) (plan : PlannedCalls) (plain : IsPlainView v) (is : pla
             (plain-zero v.sectors v.bytes v.seen v.rows v.filled at count plain below within (subst (λ n. HasRoom (v.rows + rows_for count) n) (add-zero v.filled) room)));
         counts = record { sectors = refl; alone = ((Zero at count) ∷ [], refl); plan = refl; planned = planned_ok v.plan fails tt noted.0 named };
         answer = notes_last v (Zero at count) (Zero at count) v.faults below (omega arith) (room_for v (Zero at count) plain room);
+        cause = calm_still {T = Unit {0}} _ _ (Ok tt) refl (λ e. cc);
         worn = not_worn v (Ok tt) below;
       })
 

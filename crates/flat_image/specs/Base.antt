@@ -6,6 +6,7 @@ use Rattle.flat_image.specs.Sheets.{Cell, Hole, IsSheet, flat}
 use Rattle.flat_image.specs.Frozen.{Frozen}
 use Rattle.flat_image.specs.CanonicalFiles.{stretches}
 use Rattle.flat_image.specs.LayerReading.{sheet_in, uuid_in, IsLayer}
+use Rattle.flat_image.specs.Stacks.{uppermost}
 
 -- a sheet that says nothing
 abbrev pub holes : ℕ → List Cell
@@ -22,9 +23,7 @@ pending_of frozen = option_map (λ f. f.uuid) frozen
 
 -- the uuid of the uppermost file, or that of no layer
 abbrev pub top_uuid : List (List ℕ) → List ℕ
-top_uuid [] = nil
-top_uuid (file ∷ []) = uuid_in file
-top_uuid (file ∷ next ∷ files) = top_uuid (next ∷ files)
+top_uuid files = uppermost (map uuid_in files)
 
 -- the sheet of a commit in progress
 abbrev pub sheet_list : Option Frozen → List (List Cell)

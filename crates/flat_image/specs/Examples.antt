@@ -1,5 +1,5 @@
 -- Small histories, and what the definitions give of them.
-use Rattle.std.specs.Prelude.{◌≡◌, ℕ, ◌^◌, length, List, [], ◌∷◌, ◌++◌, take, replicate, Some, None}
+use Rattle.std.specs.Prelude.{true, ◌≡◌, ℕ, ◌^◌, length, List, [], ◌∷◌, ◌++◌, take, replicate, Some, None}
 use Rattle.sector_extent.specs.Rows.{rows_for}
 use Rattle.flat_image.specs.declared.act.Act.TheVariants.{Read, Write, Zero, Flush, Freeze, Seal, Fault}
 use Rattle.flat_image.specs.declared.act.Asked.TheVariants.{Nothing}
@@ -108,4 +108,4 @@ pub record FaultsAndOrder : Type 0 where
   pub read : reply (fresh 8 []) healed 0 2 ≡ sector 0x61 ++ sector 0x62
   pub busy : CanFreeze [] (frozen (fresh 8 []) (entry 0 (Freeze (uuid 0x11)) ∷ [])) (uuid 0x22) → ⊥
   pub many : (layers : List (List ℕ)) → length layers ≡ 255 → CanFreeze layers None (uuid 0x22) → ⊥
-  pub worn : IsWorn (record { base = fresh 8 []; first = 4611686018427387903; number = 0; seen = entry 0 Flush ∷ []; faults = 0 })
+  pub worn : IsWorn (record { home = []; tells = true; base = fresh 8 []; first = 4611686018427387903; number = 0; seen = entry 0 Flush ∷ []; faults = 0 })

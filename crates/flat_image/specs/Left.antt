@@ -44,13 +44,23 @@ moves_layers (Freeze uuid) = true
 moves_layers (Seal uuid) = true
 moves_layers (Fault asked) = false
 
+-- an act that is made of what the manifest names by then, so that no step that failed before it is to blame any more
+abbrev pub ends_blame : Act → Bool
+ends_blame (Read at count) = false
+ends_blame (Write at bytes) = false
+ends_blame (Zero at count) = false
+ends_blame Flush = false
+ends_blame (Freeze uuid) = true
+ends_blame (Seal uuid) = true
+ends_blame (Fault asked) = false
+
 -- a step that was asked for this failed, and no freeze and no seal has come since
 pub record Blamed (history : History) (asked : Asked) : Type 0 where
   pub front : History
   pub number : ℕ
   pub rest : History
   pub splits : history ≡ front ++ (entry number (Fault asked) ∷ rest)
-  pub since : All (λ e. moves_layers e.act ≡ false) rest
+  pub since : All (λ e. ends_blame e.act ≡ false) rest
 
 -- the image as the failed step would have made it: frozen where nothing is pending, sealed where that uuid is
 abbrev pub Advances : Base → Asked → Base → Type 0

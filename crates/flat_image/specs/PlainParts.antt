@@ -5,7 +5,7 @@ use Rattle.flat_image.specs.declared.plain_port.PlainParts.{PlainParts}
 use Rattle.flat_image.specs.declared.port_fault.PortFault.{PortFault}
 use Rattle.flat_image.specs.declared.port_fault.PortFault.TheVariants.{Worn}
 use Rattle.flat_image.specs.History.{History}
-use Rattle.flat_image.specs.Ports.{PortState, IsWorn}
+use Rattle.flat_image.specs.Ports.{PortState, IsWorn, ChargesPort}
 use Rattle.flat_image.specs.PlainPorts.{PlainState, port_of, IsPlain, Counts}
 
 -- the fields, without what they have in reserve
@@ -36,4 +36,5 @@ pub record Answers {T : Type 0} (old new : PlainView) (result : Result T PortFau
   pub plain : IsPlainView new
   pub counts : Counts (state_of old) (state_of new) result
   pub answer : MatchResult result (λ _. Done) Fails
+  pub cause : ChargesPort (port_in old) (port_in new) result
   pub worn : IsWorn (port_in old) → IsErrOf result Worn

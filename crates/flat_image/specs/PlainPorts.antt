@@ -21,7 +21,7 @@ pub record PlainState : Type 0 where
 
 -- as a port: over an image without layers, with number 0, and no entry before its own
 abbrev pub port_of : PlainState → PortState
-port_of s = record { base = fresh s.sectors []; first = 0; number = 0; seen = s.seen; faults = s.faults }
+port_of s = record { home = []; tells = true; base = fresh s.sectors []; first = 0; number = 0; seen = s.seen; faults = s.faults }
 
 -- the bytes are the image after the entries, and the rows and the sectors are those that they use
 pub record IsPlain (sectors : ℕ) (bytes : List ℕ) (seen : History) (rows filled : ℕ) : Type 0 where

@@ -1,5 +1,6 @@
 -- What a caller of an image has seen, what its calls note, and when each refusal comes.
-use Rattle.std.specs.Prelude.{◌≡◌, ℕ, ◌+◌, ◌^◌, ◌<◌, ◌≤◌, ◌⊎◌, Bool, true, List, [], ◌∷◌, ◌++◌, length, map}
+use Rattle.std.specs.Prelude.{◌≡◌, ℕ, ◌+◌, ◌^◌, ◌<◌, ◌≤◌, ◌⊎◌, Bool, IsTrue, true, List, [], ◌∷◌, ◌++◌, length, map, Result, IsErrOf}
+use Rattle.sector_extent.specs.Causes.{Charges}
 use Rattle.flat_image.specs.declared.act.Act.{Act}
 use Rattle.flat_image.specs.declared.act.Act.TheVariants.{Read, Flush, Fault}
 use Rattle.flat_image.specs.declared.act.Asked.TheVariants.{Nothing}
@@ -9,9 +10,12 @@ use Rattle.flat_image.specs.declared.port_fault.PortFault.TheVariants.{Worn, Ful
 use Rattle.flat_image.specs.Entries.{entry, calls_by}
 use Rattle.flat_image.specs.History.{History, reply, rows_taken, sectors_taken, used_rows, used_sectors, HasRoom, IsOver}
 
--- what a caller of an image has: the base, the number of entries before the history, its own number, the beginning of
--- the history that it has seen, and a count of faults
+-- what a caller of an image has: which of the things that stand for a history it belongs to, whether what it reads is
+-- told, the base, the number of entries before the history, its own number, the beginning of the history that it has
+-- seen, and a count of faults
 pub record PortState : Type 0 where
+  pub home : List ℕ
+  pub tells : Bool
   pub base : Base
   pub first : ℕ
   pub number : ℕ
@@ -43,7 +47,7 @@ pub record Reads (old new : PortState) (at count : ℕ) (bytes : List ℕ) : Typ
   pub before : History
   pub behind : History
   pub seen : new.seen ≡ (old.seen ++ before) ++ (entry old.number (Read at count) ∷ behind)
-  pub sectors : bytes ≡ reply old.base (old.seen ++ before) at count
+  pub sectors : IsTrue old.tells → bytes ≡ reply old.base (old.seen ++ before) at count
 
 -- the call noted this act last, and before it there was room for the one that was asked for
 pub record NotesLast (old new : PortState) (noted asked : Act) : Type 0 where
@@ -52,23 +56,31 @@ pub record NotesLast (old new : PortState) (noted asked : Act) : Type 0 where
   pub seen : new.seen ≡ (old.seen ++ before) ++ entry old.number noted ∷ []
   pub room : HasRoomFor old.base (old.seen ++ before) asked
 
--- a read that is refused
+-- the count of faults rises just where a call failed
+abbrev pub fault_count : PortState → ℕ
+fault_count port = port.faults
+
+abbrev pub ChargesPort : {T : Type 0} → PortState → PortState → Result T PortFault → Type 0
+ChargesPort old new result = Charges fault_count old new (IsErrOf result Failed)
+
+-- a read that is refused. Memory is wanting only where the history may have more entries
 abbrev pub ReadFails : PortState → PortState → ℕ → ℕ → PortFault → Type 0
 ReadFails old new at count Worn = IsWorn new × (Notes old new [] ⊎ Notes old new (Read at count ∷ []))
 ReadFails old new at count (Full rows sectors) = ⊥
-ReadFails old new at count Memory = Notes old new [] ⊎ Notes old new (Read at count ∷ [])
+ReadFails old new at count Memory = ¬ IsWorn new × (Notes old new [] ⊎ Notes old new (Read at count ∷ []))
 ReadFails old new at count Failed = (old.faults < new.faults)
     × (Notes old new (Fault Nothing ∷ []) ⊎ (Notes old new (Read at count ∷ []) ⊎ Notes old new (Read at count ∷ Fault Nothing ∷ [])))
 
--- a write or a zero that was made, and one that is refused
+-- a write or a zero that was made, and one that is refused: for want of room only where the history may have more
+-- entries, and for want of memory only where there is room too
 abbrev pub Makes : PortState → PortState → Act → Type 0
 Makes old new act = NotesLast old new act act
 
 abbrev pub ChangeFails : PortState → PortState → Act → PortFault → Type 0
 ChangeFails old new act Worn = IsWorn new × Notes old new []
-ChangeFails old new act (Full rows sectors) = IsOverFor new.base new.seen act × Notes old new []
+ChangeFails old new act (Full rows sectors) = ¬ IsWorn new × IsOverFor new.base new.seen act × Notes old new []
     × (rows ≡ used_rows new.base new.seen) × (sectors ≡ used_sectors new.base new.seen)
-ChangeFails old new act Memory = HasRoomFor new.base new.seen act × Notes old new []
+ChangeFails old new act Memory = ¬ IsWorn new × HasRoomFor new.base new.seen act × Notes old new []
 ChangeFails old new act Failed = (old.faults < new.faults) × NotesLast old new (Fault Nothing) act
 
 -- a flush that was made noted its entry last, and so all that was seen is kept; and one that is refused, by a port
@@ -81,5 +93,5 @@ pub record Flushes (old new : PortState) : Type 0 where
 abbrev pub FlushFails : Bool → PortState → PortState → PortFault → Type 0
 FlushFails takes old new Worn = IsWorn new × Notes old new []
 FlushFails takes old new (Full rows sectors) = ⊥
-FlushFails takes old new Memory = (takes ≡ true) × Notes old new []
+FlushFails takes old new Memory = ¬ IsWorn new × (takes ≡ true) × Notes old new []
 FlushFails takes old new Failed = (old.faults < new.faults) × Notes old new (Fault Nothing ∷ [])

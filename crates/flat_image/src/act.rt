@@ -1,4 +1,6 @@
+use crate::stands::Named;
 use sector_extent::Bytes;
+use std::marker::Brand;
 
 /// What one entry of a history did to an image. Places and counts are in sectors, and the bytes of
 /// a write are whole sectors.
@@ -21,4 +23,11 @@ pub enum Act {
 pub enum Asked {
     Nothing,
     Uuid([u8; 16]),
+}
+
+// the act of a call that passes `Brand` is the one that the caller's proof picks
+impl Named<Act> for Brand {
+    ghost use Rattle.flat_image.specs.declared.act.Act.TheVariants.{Flush};
+
+    ghost it = { Flush };
 }

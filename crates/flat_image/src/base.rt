@@ -3,7 +3,8 @@ ghost use Rattle.std.specs.Borrow.{ftrue};
 ghost use Rattle.flat_image.specs.Sheets.{Cell};
 ghost use Rattle.flat_image.specs.Frozen.{Frozen};
 
-use std::marker::Model;
+use crate::stands::Named;
+use std::marker::{Brand, Model};
 
 /// What an image starts from, before the first entry of its history. It stands in contracts alone.
 pub struct Base {
@@ -19,4 +20,20 @@ pub struct Base {
 
 impl Model for Base {
     ghost also_owns = { λ _. ftrue };
+}
+
+// the base of a call that passes `Brand` is the one that the caller's proof picks
+impl Named<Base> for Brand {
+    ghost use Rattle.std.specs.Prelude.{[], None};
+
+    ghost it = { record {
+      sectors = 0;
+      lowers = [];
+      done = [];
+      frozen = None;
+      top = [];
+      rows = 0;
+      filled = 0;
+      faults = 0;
+    } };
 }

@@ -1,7 +1,7 @@
 //! What a connection asks of an image.
 ghost use Rattle.std.specs.Prelude.{◌≡◌, ℕ, ◌+◌, ◌/◌, ◌^◌, ◌≤◌, Bool, MatchResult, IsErrOf, length};
 ghost use Rattle.flat_image.specs.History.{IsWithin};
-ghost use Rattle.flat_image.specs.Ports.{PortState, IsWorn, Reads, ReadFails, Makes, ChangeFails, Flushes, FlushFails};
+ghost use Rattle.flat_image.specs.Ports.{PortState, IsWorn, ChargesPort, Reads, ReadFails, Makes, ChangeFails, Flushes, FlushFails};
 
 use crate::act::Act;
 use crate::port_fault::PortFault;
@@ -29,6 +29,7 @@ pub trait ImagePort {
         ensures read { MatchResult result
             (λ _. Reads (state self.old) (state self.new) at (length out.new / 512) out.new)
             (ReadFails (state self.old) (state self.new) at (length out.new / 512)) }
+        ensures cause { ChargesPort (state self.old) (state self.new) result }
         ensures worn { IsWorn (state self.old) → IsErrOf result PortFault.Worn };
 
     /// Writes the bytes from sector `at` on. A refused write changes nothing of the image.
@@ -37,6 +38,7 @@ pub trait ImagePort {
         ensures write { MatchResult result
             (λ _. Makes (state self.old) (state self.new) (Act.Write at bytes.now))
             (ChangeFails (state self.old) (state self.new) (Act.Write at bytes.now)) }
+        ensures cause { ChargesPort (state self.old) (state self.new) result }
         ensures worn { IsWorn (state self.old) → IsErrOf result PortFault.Worn };
 
     /// Makes `count` sectors from `at` on zero. A refused zero changes nothing of the image.
@@ -45,6 +47,7 @@ pub trait ImagePort {
         ensures zero { MatchResult result
             (λ _. Makes (state self.old) (state self.new) (Act.Zero at count))
             (ChangeFails (state self.old) (state self.new) (Act.Zero at count)) }
+        ensures cause { ChargesPort (state self.old) (state self.new) result }
         ensures worn { IsWorn (state self.old) → IsErrOf result PortFault.Worn };
 
     /// After it every crash leaves all that the port has seen.
@@ -52,5 +55,6 @@ pub trait ImagePort {
         ensures flush { MatchResult result
             (λ _. Flushes (state self.old) (state self.new))
             (FlushFails flush_takes_memory (state self.old) (state self.new)) }
+        ensures cause { ChargesPort (state self.old) (state self.new) result }
         ensures worn { IsWorn (state self.old) → IsErrOf result PortFault.Worn };
 }

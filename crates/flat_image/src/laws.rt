@@ -28,7 +28,8 @@ pub fn history_laws()
     ensures open_commit { (base : Base) → OpenCommitIsImage base }
     ensures fresh { (n : ℕ) (lowers : List (List ℕ)) → HasFewStretches (fresh n lowers) }
     ensures whole { (base : Base) → BaseIsImage base }
-    ensures read { (file : List ℕ) (head : Head) (sheet : List Cell) → LayerFile file head sheet → ReadsLayer file head sheet }
+    ensures read { (file : List ℕ) (head : Head) (sheet : List Cell)
+        → LayerFile file head sheet → ReadsLayer file head sheet }
 {}
 
 /// What the canonical file of a sheet is.

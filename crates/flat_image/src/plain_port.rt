@@ -3,7 +3,7 @@ ghost use Rattle.std.specs.Prelude.{◌≡◌, ℕ, ◌+◌, ◌*◌, ◌/◌, �
 ghost use Rattle.flat_image.specs.Sectors.{put_at};
 ghost use Rattle.flat_image.specs.Entries.{entry};
 ghost use Rattle.flat_image.specs.History.{HasRoom, IsOver, IsWithin};
-ghost use Rattle.flat_image.specs.Ports.{IsWorn, Reads, ReadFails, Makes, ChangeFails, Flushes, FlushFails};
+ghost use Rattle.flat_image.specs.Ports.{IsWorn, ChargesPort, Reads, ReadFails, Makes, ChangeFails, Flushes, FlushFails};
 ghost use Rattle.flat_image.specs.PlainPorts.{PlainState, port_of, IsPlain, counted, Counts, NoteFails};
 
 use crate::act::{Act, Asked};
@@ -18,7 +18,8 @@ use std::marker::Model;
 /// Counts a call, and answers whether it was named to fail. No call comes after the last entry.
 fn begin(plan: &mut CallPlan, entries: &Vec<Entry<Act>>) -> Result<bool, PortFault>
     ensures counted { plan.new ≡ counted plan.old }
-    ensures open { IfOk result (λ fails. (length entries.now.items < 2 ^ 62) × (IsTrue fails ↔ Contains plan.old.failing plan.old.calls)) }
+    ensures open { IfOk result (λ fails. (length entries.now.items < 2 ^ 62)
+        × (IsTrue fails ↔ Contains plan.old.failing plan.old.calls)) }
     ensures worn { IfErr result (λ fault. (fault ≡ PortFault.Worn) × (2 ^ 62 ≤ length entries.now.items)) }
 {
     let fails = plan.next_fails();
@@ -46,7 +47,8 @@ fn note(
     act: Act,
 ) -> Result<(), PortFault>
     ensures noted { MatchResult result
-        (λ _. (fails ≡ false) × (entries.new.items ≡ entries.old.items ++ entry 0 act ∷ []) × (faults.new.count ≡ faults.old.count))
+        (λ _. (fails ≡ false) × (entries.new.items ≡ entries.old.items ++ entry 0 act ∷ [])
+        × (faults.new.count ≡ faults.old.count))
         (NoteFails fails entries.old.items entries.new.items faults.old.count faults.new.count) }
 {
     if fails {
@@ -245,6 +247,7 @@ impl ImagePort for PlainPort {
         ensures read { MatchResult result
             (λ _. Reads (port_of self.old) (port_of self.new) at (length out.new / 512) out.new)
             (ReadFails (port_of self.old) (port_of self.new) at (length out.new / 512)) }
+        ensures cause { ChargesPort (port_of self.old) (port_of self.new) result }
         ensures worn { IsWorn (port_of self.old) → IsErrOf result PortFault.Worn }
         ensures counts { Counts self.old self.new result }
     {
@@ -256,6 +259,7 @@ impl ImagePort for PlainPort {
         ensures write { MatchResult result
             (λ _. Makes (port_of self.old) (port_of self.new) (Act.Write at bytes.now))
             (ChangeFails (port_of self.old) (port_of self.new) (Act.Write at bytes.now)) }
+        ensures cause { ChargesPort (port_of self.old) (port_of self.new) result }
         ensures worn { IsWorn (port_of self.old) → IsErrOf result PortFault.Worn }
         ensures counts { Counts self.old self.new result }
     {
@@ -267,6 +271,7 @@ impl ImagePort for PlainPort {
         ensures zero { MatchResult result
             (λ _. Makes (port_of self.old) (port_of self.new) (Act.Zero at count))
             (ChangeFails (port_of self.old) (port_of self.new) (Act.Zero at count)) }
+        ensures cause { ChargesPort (port_of self.old) (port_of self.new) result }
         ensures worn { IsWorn (port_of self.old) → IsErrOf result PortFault.Worn }
         ensures counts { Counts self.old self.new result }
     {
@@ -277,6 +282,7 @@ impl ImagePort for PlainPort {
         ensures flush { MatchResult result
             (λ _. Flushes (port_of self.old) (port_of self.new))
             (FlushFails true (port_of self.old) (port_of self.new)) }
+        ensures cause { ChargesPort (port_of self.old) (port_of self.new) result }
         ensures worn { IsWorn (port_of self.old) → IsErrOf result PortFault.Worn }
         ensures counts { Counts self.old self.new result }
     {

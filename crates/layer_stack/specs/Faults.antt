@@ -1,15 +1,14 @@
 -- Which fault of a stack is the first one.
-use Rattle.std.specs.Prelude.{◌≡◌, ◌≢◌, ℕ, ◌<◌, ◌≤◌, List, [], ◌∷◌, ◌++◌, length, All, Some, slice_get}
+use Rattle.std.specs.Prelude.{◌≡◌, ◌≢◌, ℕ, ◌<◌, ◌≤◌, List, [], ◌∷◌, ◌++◌, length, map, All, Some, slice_get}
 use Rattle.lsmt_header.specs.declared.head.Head.{Head}
-use Rattle.flat_image.specs.Stacks.{AreStacked, AreUnlike}
+use Rattle.flat_image.specs.Stacks.{AreStacked, AreUnlike, uppermost}
 use Rattle.lsmt_header.specs.Blocks.{nil}
 use Rattle.layer_stack.specs.declared.fault.StackFault.{StackFault}
 use Rattle.layer_stack.specs.declared.fault.StackFault.TheVariants.{Empty, TooMany, SizeDiffers, ParentDiffers, UuidTwice}
 
 -- the uuid of the uppermost of these heads, or the given one where there is none
 abbrev pub top_uuid : List ℕ → List Head → List ℕ
-top_uuid uuid [] = uuid
-top_uuid uuid (head ∷ above) = top_uuid head.uuid above
+top_uuid uuid heads = uppermost (uuid ∷ map (λ head. head.uuid) heads)
 
 -- the head has the sectors of the lowest of the heads below it
 abbrev pub HasSize : List Head → Head → Type 0
