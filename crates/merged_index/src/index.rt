@@ -48,9 +48,16 @@ pub fn merge(alloc: Global, layers: &[Layer]) -> Result<MergedIndex, Memory>
 impl MergedIndex {
     /// The index with one more layer on top, under the number `tag`.
     pub fn over(&self, alloc: Global, layer: &Layer, tag: u8) -> Result<MergedIndex, Memory>
-        ensures cells { IfOk result (λ index. (sector : ℕ) → cells_of index sector ≡ painted_what (cells_of self.now sector) (what_of tag layer.now.rows sector)) }
-        ensures edges { IfOk result (λ index. (sector : ℕ) → IsEdge index sector → (IsEdge self.now sector × (what_of tag layer.now.rows (sector - 1) ≡ Hole)) ⊎ IsRowEdge layer.now.rows sector) }
-        ensures painted { IfOk result (λ index. (layers : List LayerIndex) → IsIndexOf self.now layers → length layers ≡ tag → IsIndexOf index (layers ++ layer.now ∷ [])) }
+        ensures cells { IfOk result (λ index.
+            (sector : ℕ) → cells_of index sector
+            ≡ painted_what (cells_of self.now sector) (what_of tag layer.now.rows sector)) }
+        ensures edges { IfOk result (λ index.
+            (sector : ℕ) → IsEdge index sector
+            → (IsEdge self.now sector × (what_of tag layer.now.rows (sector - 1) ≡ Hole))
+            ⊎ IsRowEdge layer.now.rows sector) }
+        ensures painted { IfOk result (λ index.
+            (layers : List LayerIndex) → IsIndexOf self.now layers → length layers ≡ tag
+            → IsIndexOf index (layers ++ layer.now ∷ [])) }
     {
         let top = Arc::new(alloc, LayerRows::of(alloc, layer, tag)?)?;
         let mut layers = shared(alloc, self.layers.as_slice())?;

@@ -36,7 +36,8 @@ fn rows_before<L: Ledger>(rows: &[Row], sector: u64, steps: &mut Steps<L>) -> us
     requires sound { AreLayerRows (2 ^ 31) (2 ^ 50) 0 rows.now }
     ensures within { result ≤ length rows.now }
     ensures before { rows_end 0 (take result rows.now) ≤ sector }
-    ensures behind { (d : Row) → result < length rows.now → sector < rows_end 0 (slice_index_or rows.now result d ∷ []) }
+    ensures behind { (d : Row) → result < length rows.now
+        → sector < rows_end 0 (slice_index_or rows.now result d ∷ []) }
     ensures counted { steps.old ≤ steps.new }
 {
     let mut low = 0;
@@ -140,7 +141,8 @@ pub(crate) fn find_in<L: Ledger>(
     ensures within { result.until ≤ end }
     ensures room { result.pieces ≤ length out.new }
     ensures full { result.until < end → result.pieces ≡ length out.new }
-    ensures unparted { All (IsUnparted (record { layers = map arc_value layers.now }) end) (take result.pieces out.new) }
+    ensures unparted { All (IsUnparted (record { layers = map arc_value layers.now }) end)
+        (take result.pieces out.new) }
     ensures rest { drop result.pieces out.new ≡ drop result.pieces out.old }
     ensures counted { steps.old ≤ steps.new }
 {

@@ -1,5 +1,5 @@
 -- The fault of a file that is no layer, by the order in which it is read.
-use Rattle.std.specs.Prelude.{◌≡◌, ◌≢◌, ℕ, ◌+◌, ◌-◌, ◌*◌, ◌^◌, ◌<◌, ◌≤◌, List, length, take, drop, slice_set, Result, IsErrOf, ⊤}
+use Rattle.std.specs.Prelude.{◌≡◌, ◌≢◌, ℕ, ◌+◌, ◌-◌, ◌*◌, ◌^◌, ◌<◌, ◌≤◌, List, length, take, drop, slice_set, ⊤}
 use Rattle.seg_mapping.specs.declared.Row.{Row}
 use Rattle.seg_mapping.specs.Rows.{RowOf, count_in}
 use Rattle.lsmt_header.specs.declared.head.Head.{Head}
@@ -87,8 +87,3 @@ IsLayerFault file (f.RowOrder number) = StopsAtRow file (f.RowOrder number)
 IsLayerFault file (f.RowRange number) = StopsAtRow file (f.RowRange number)
 IsLayerFault file (f.RowPlace number) = StopsAtRow file (f.RowPlace number)
 IsLayerFault file f.Memory = ⊤
-
--- a count of faults never falls, and it rose where the shelf's fault is answered
-pub record HasLayerCause {T : Type 0} (before now : ℕ) (result : Result T LayerFault) : Type 0 where
-  pub later : before ≤ now
-  pub failed : IsErrOf result f.Failed → before < now

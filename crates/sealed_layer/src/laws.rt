@@ -12,11 +12,14 @@ use crate::layer::Layer;
 /// A file is one layer at most, and the file of a layer has no fault. So `read_layer` answers the
 /// layer of a file just where it is one, unless the shelf fails or memory is wanting.
 pub fn layer_laws()
-    ensures one { (file : List ℕ) (head other : Head) (rows others : List Row) → LayerOf file head rows → LayerOf file other others → (head ≡ other) × (rows ≡ others) }
-    ensures sound { (file : List ℕ) (head : Head) (rows : List Row) (fault : LayerFault) → LayerOf file head rows → IsLayerFault file fault
+    ensures one { (file : List ℕ) (head other : Head) (rows others : List Row) → LayerOf file head rows
+        → LayerOf file other others → (head ≡ other) × (rows ≡ others) }
+    ensures sound { (file : List ℕ) (head : Head) (rows : List Row) (fault : LayerFault) → LayerOf file head rows
+        → IsLayerFault file fault
         → (fault ≡ LayerFault.Failed) ⊎ (fault ≡ LayerFault.Memory) }
     // what a layer in memory keeps is the head and the rows of some file
-    ensures blank { (head : Head) (rows : List Row) → IsLayerIndex head rows → LayerOf (blank_file head rows) head rows }
+    ensures blank { (head : Head) (rows : List Row) → IsLayerIndex head rows
+        → LayerOf (blank_file head rows) head rows }
 {}
 
 /// Layers in memory keep what a layer keeps, each of them. The loop does nothing.

@@ -1,8 +1,8 @@
-ghost use Rattle.std.specs.Prelude.{◌≡◌, ℕ, ◌+◌, ◌-◌, ◌*◌, ◌/◌, ◌%◌, ◌^◌, ◌<◌, ◌≤◌, false, List, [], ◌∷◌, length, take, OnOk, IfSome, All};
+ghost use Rattle.std.specs.Prelude.{◌≡◌, ℕ, ◌+◌, ◌-◌, ◌*◌, ◌/◌, ◌%◌, ◌^◌, ◌<◌, ◌≤◌, false, List, [], ◌∷◌, length, take, OnOk, IfSome, All, IsErr};
 ghost use Rattle.std.specs.Option.{ForSome};
-ghost use Rattle.sector_extent.specs.Causes.{HasCause};
+ghost use Rattle.sector_extent.specs.Causes.{Charges};
 ghost use Rattle.seg_mapping.specs.Rows.{Fits};
-ghost use Rattle.layer_shelf.specs.Shelves.{file_at};
+ghost use Rattle.layer_shelf.specs.Shelves.{SameFiles, file_at};
 ghost use Rattle.flat_image.specs.LayerFiles.{LayerOf};
 ghost use Rattle.flat_image.specs.RowCells.{AreLayerRows, IsInData, end_of};
 ghost use Rattle.sealed_layer.specs.Painting.{IsRowPiece, Paints};
@@ -26,10 +26,10 @@ pub fn paint_part<S: Shelf>(
     requires whole { length out.old % 512 ≡ 0 }
     requires within { at + length out.old / 512 ≤ layer.now.head.sectors }
     requires told { ForSome (S.files shelf.old) (λ files. LayerOf (file_at files k) layer.now.head layer.now.rows) }
-    ensures painted { OnOk result (IfSome (S.files shelf.old) (λ files. Paints (file_at files k) layer.now.rows at out.old out.new)) }
-    ensures same_files { S.files shelf.new ≡ S.files shelf.old }
-    ensures same_count { S.count shelf.new ≡ S.count shelf.old }
-    ensures cause { HasCause (S.faults shelf.old) (S.faults shelf.new) result }
+    ensures painted { OnOk result
+        (IfSome (S.files shelf.old) (λ files. Paints (file_at files k) layer.now.rows at out.old out.new)) }
+    ensures same { SameFiles S.files S.count shelf.old shelf.new }
+    ensures cause { Charges S.faults shelf.old shelf.new (IsErr result) }
 {
     let rows = layer.rows();
     let end = at + (out.len() / SECTOR) as u64;
@@ -48,7 +48,8 @@ pub fn paint_part<S: Shelf>(
 fn rows_before(rows: &[Row], at: u64) -> usize
     requires fits { All Fits rows.now }
     ensures within { result ≤ length rows.now }
-    ensures before { (n : ℕ) (index_at : ℕ) → AreLayerRows n index_at 0 rows.now → end_of 0 (take result rows.now) ≤ at }
+    ensures before { (n : ℕ) (index_at : ℕ) → AreLayerRows n index_at 0 rows.now
+        → end_of 0 (take result rows.now) ≤ at }
 {
     rows.partition_point(|row| row.offset.saturating_add(row.count as u64) <= at)
 }
@@ -66,10 +67,10 @@ fn paint_row<S: Shelf>(
     requires row { row.now.offset + row.now.count ≤ 2 ^ 31 }
     requires within { at + length out.old / 512 ≤ 2 ^ 31 }
     requires place { IsInData (2 ^ 50) row.now }
-    ensures painted { OnOk result (IfSome (S.files shelf.old) (λ files. Paints (file_at files k) (row.now ∷ []) at out.old out.new)) }
-    ensures same_files { S.files shelf.new ≡ S.files shelf.old }
-    ensures same_count { S.count shelf.new ≡ S.count shelf.old }
-    ensures cause { HasCause (S.faults shelf.old) (S.faults shelf.new) result }
+    ensures painted { OnOk result
+        (IfSome (S.files shelf.old) (λ files. Paints (file_at files k) (row.now ∷ []) at out.old out.new)) }
+    ensures same { SameFiles S.files S.count shelf.old shelf.new }
+    ensures cause { Charges S.faults shelf.old shelf.new (IsErr result) }
 {
     let from = row.offset.max(at);
     let end = (row.offset + row.count as u64).min(at + (out.len() / SECTOR) as u64);
@@ -92,11 +93,13 @@ fn fill_piece<S: Shelf>(
 ) -> Result<(), ShelfFailed>
     requires file { k < S.count shelf.old }
     requires after { row.now.offset ≤ from }
-    requires place { row.now.zeroed ≡ false → 512 * (row.now.place + (from - row.now.offset)) + length piece.old ≤ 2 ^ 50 }
-    ensures filled { OnOk result (IfSome (S.files shelf.old) (λ files. IsRowPiece (file_at files k) row.now from (length piece.new) piece.new)) }
-    ensures same_files { S.files shelf.new ≡ S.files shelf.old }
-    ensures same_count { S.count shelf.new ≡ S.count shelf.old }
-    ensures cause { HasCause (S.faults shelf.old) (S.faults shelf.new) result }
+    requires place { row.now.zeroed ≡ false
+        → 512 * (row.now.place + (from - row.now.offset)) + length piece.old ≤ 2 ^ 50 }
+    ensures filled { OnOk result
+        (IfSome (S.files shelf.old)
+        (λ files. IsRowPiece (file_at files k) row.now from (length piece.new) piece.new)) }
+    ensures same { SameFiles S.files S.count shelf.old shelf.new }
+    ensures cause { Charges S.faults shelf.old shelf.new (IsErr result) }
 {
     if row.zeroed {
         piece.fill(0);

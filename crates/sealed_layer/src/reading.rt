@@ -1,12 +1,14 @@
-ghost use Rattle.std.specs.Prelude.{◌≡◌, ◌+◌, ◌*◌, ◌^◌, ◌<◌, ◌≤◌, ◌↔◌, ◌⊎◌, IsTrue, IfOk, IfErr, IfSome, OnOk, All, [], min, length, slice_set, vec_capacity};
+ghost use Rattle.std.specs.Prelude.{◌≡◌, ◌+◌, ◌*◌, ◌^◌, ◌<◌, ◌≤◌, ◌↔◌, ◌⊎◌, IsTrue, IfOk, IfErr, IfSome, OnOk, IsErrOf, All, [], min, length, slice_set, vec_capacity};
 ghost use Rattle.std.specs.Option.{ForSome};
+ghost use Rattle.sector_extent.specs.Causes.{Charges};
 ghost use Rattle.lsmt_header.specs.declared.head.Kind.TheVariants.{SealedHead};
 ghost use Rattle.lsmt_header.specs.Blocks.{IsValid, Fits, BlockOf};
-ghost use Rattle.layer_shelf.specs.Shelves.{file_at};
+ghost use Rattle.layer_shelf.specs.Shelves.{SameFiles, file_at};
 ghost use Rattle.flat_image.specs.RowCells.{AreSpelled, AreLayerRows};
 ghost use Rattle.flat_image.specs.LayerFiles.{IsFramed, IsIndexPlace, LayerOf};
 ghost use Rattle.sealed_layer.specs.Layers.{IsTagged};
-ghost use Rattle.sealed_layer.specs.LayerFaults.{IsLayerFault, IsNoHead, HasLayerCause};
+ghost use Rattle.sealed_layer.specs.LayerFaults.{IsLayerFault, IsNoHead};
+ghost use Rattle.sealed_layer.specs.declared.fault.LayerFault.TheVariants as layer_fault;
 ghost use Rattle.sealed_layer.specs.RowReading.{StopsReading};
 
 use crate::fault::LayerFault;
@@ -27,11 +29,11 @@ const PIECE_ROWS: usize = 4096;
 /// Reads the head and the rows of file `k` of the shelf. The data sectors are not read.
 pub fn read_layer<S: Shelf>(alloc: Global, shelf: &mut S, k: u32) -> Result<Layer, LayerFault>
     requires { k < S.count shelf.old }
-    ensures found { IfOk result (λ layer. IfSome (S.files shelf.old) (λ files. LayerOf (file_at files k) layer.head layer.rows)) }
+    ensures found { IfOk result (λ layer.
+        IfSome (S.files shelf.old) (λ files. LayerOf (file_at files k) layer.head layer.rows)) }
     ensures fault { IfErr result (λ fault. IfSome (S.files shelf.old) (λ files. IsLayerFault (file_at files k) fault)) }
-    ensures same_files { S.files shelf.new ≡ S.files shelf.old }
-    ensures same_count { S.count shelf.new ≡ S.count shelf.old }
-    ensures cause { HasLayerCause (S.faults shelf.old) (S.faults shelf.new) result }
+    ensures same { SameFiles S.files S.count shelf.old shelf.new }
+    ensures cause { Charges S.faults shelf.old shelf.new (IsErrOf result layer_fault.Failed) }
 {
     let len = shelf.length(k)?;
     if len < 2 * BLOCK {
@@ -53,9 +55,8 @@ fn read_head<S: Shelf>(shelf: &mut S, k: u32, len: u64) -> Result<Head, LayerFau
     ensures valid { IfOk result (λ head. (head.kind ≡ SealedHead) × IsValid head) }
     ensures sized { IfOk result Fits }
     ensures fault { IfErr result (λ fault. IfSome (S.files shelf.old) (λ files. IsLayerFault (file_at files k) fault)) }
-    ensures same_files { S.files shelf.new ≡ S.files shelf.old }
-    ensures same_count { S.count shelf.new ≡ S.count shelf.old }
-    ensures cause { HasLayerCause (S.faults shelf.old) (S.faults shelf.new) result }
+    ensures same { SameFiles S.files S.count shelf.old shelf.new }
+    ensures cause { Charges S.faults shelf.old shelf.new (IsErrOf result layer_fault.Failed) }
 {
     let mut front = [0; 4096];
     shelf.read(k, 0, &mut front)?;
@@ -92,7 +93,8 @@ fn check_index(head: &Head, len: u64) -> Result<(), LayerFault>
     requires { len ≤ 2 ^ 50 }
     ensures ok { OnOk result ((head.now.rows ≤ 2 ^ 24) × IsIndexPlace len head.now.index_at head.now.rows) }
     ensures fault { IfErr result (λ fault. ((fault ≡ LayerFault.TooManyRows head.now.rows) × (2 ^ 24 < head.now.rows))
-        ⊎ ((fault ≡ LayerFault.BadIndexPlace) × (head.now.rows ≤ 2 ^ 24) × (IsIndexPlace len head.now.index_at head.now.rows → ⊥))) }
+        ⊎ ((fault ≡ LayerFault.BadIndexPlace) × (head.now.rows ≤ 2 ^ 24)
+        × (IsIndexPlace len head.now.index_at head.now.rows → ⊥))) }
 {
     if head.rows > 1 << 24 {
         return Err(LayerFault::TooManyRows(head.rows));
@@ -121,11 +123,12 @@ fn read_rows<S: Shelf>(
     ensures sound { IfOk result (λ rows. AreLayerRows head.now.sectors head.now.index_at 0 rows.items) }
     ensures tags { IfOk result (λ rows. All IsTagged rows.items) }
     ensures count { IfOk result (λ rows. length rows.items ≡ head.now.rows) }
-    ensures found { IfOk result (λ rows. IfSome (S.files shelf.old) (λ files. AreSpelled (file_at files k) head.now.index_at rows.items)) }
-    ensures fault { IfErr result (λ fault. IfSome (S.files shelf.old) (λ files. StopsReading (file_at files k) head.now fault)) }
-    ensures same_files { S.files shelf.new ≡ S.files shelf.old }
-    ensures same_count { S.count shelf.new ≡ S.count shelf.old }
-    ensures cause { HasLayerCause (S.faults shelf.old) (S.faults shelf.new) result }
+    ensures found { IfOk result (λ rows.
+        IfSome (S.files shelf.old) (λ files. AreSpelled (file_at files k) head.now.index_at rows.items)) }
+    ensures fault { IfErr result (λ fault.
+        IfSome (S.files shelf.old) (λ files. StopsReading (file_at files k) head.now fault)) }
+    ensures same { SameFiles S.files S.count shelf.old shelf.new }
+    ensures cause { Charges S.faults shelf.old shelf.new (IsErrOf result layer_fault.Failed) }
 {
     let count = head.rows as usize;
     let mut rows = Vec::with_capacity(alloc, count)?;
@@ -152,11 +155,12 @@ fn fill_rows<S: Shelf>(
     ensures sound { AreLayerRows head.now.sectors head.now.index_at 0 rows.new.items }
     ensures tags { All IsTagged rows.new.items }
     ensures count { OnOk result (length rows.new.items ≡ head.now.rows) }
-    ensures found { OnOk result (IfSome (S.files shelf.old) (λ files. AreSpelled (file_at files k) head.now.index_at rows.new.items)) }
-    ensures fault { IfErr result (λ fault. IfSome (S.files shelf.old) (λ files. StopsReading (file_at files k) head.now fault)) }
-    ensures same_files { S.files shelf.new ≡ S.files shelf.old }
-    ensures same_count { S.count shelf.new ≡ S.count shelf.old }
-    ensures cause { HasLayerCause (S.faults shelf.old) (S.faults shelf.new) result }
+    ensures found { OnOk result
+        (IfSome (S.files shelf.old) (λ files. AreSpelled (file_at files k) head.now.index_at rows.new.items)) }
+    ensures fault { IfErr result (λ fault.
+        IfSome (S.files shelf.old) (λ files. StopsReading (file_at files k) head.now fault)) }
+    ensures same { SameFiles S.files S.count shelf.old shelf.new }
+    ensures cause { Charges S.faults shelf.old shelf.new (IsErrOf result layer_fault.Failed) }
 {
     let count = head.rows as usize;
     let mut low = 0;

@@ -59,7 +59,9 @@ pub(crate) fn push_rows(
     ensures low { IfOk result (λ end. end ≡ end_of 0 rows.new.items) }
     ensures all { OnOk result (length rows.new.items ≡ length rows.old.items + length piece.now / 16) }
     ensures some { OnErr result (length rows.new.items < length rows.old.items + length piece.now / 16) }
-    ensures fault { IfErr result (IsRowFault head.now (take 16 (drop (16 * (length rows.new.items - length rows.old.items)) piece.now)) (end_of 0 rows.new.items) (length rows.new.items)) }
+    ensures fault { IfErr result
+        (IsRowFault head.now (take 16 (drop (16 * (length rows.new.items - length rows.old.items)) piece.now))
+        (end_of 0 rows.new.items) (length rows.new.items)) }
 {
     let mut low = low;
     let mut left = piece;

@@ -1,5 +1,6 @@
 use Rattle.std.proofs.Common.{false, ℕ, List, refl, ◌∙◌, subst, arith}
 use Rattle.std.proofs.lemmas.Option.{IfSome_then}
+use Rattle.sector_extent.specs.CauseLaws.{calm_ok}
 use Rattle.layer_shelf.specs.Shelves.{file_at}
 use Rattle.seg_mapping.specs.declared.Row.{Row}
 use Rattle.flat_image.proofs.SpelledRows.{index_within}
@@ -17,7 +18,7 @@ pub loop-row-init : goal.loop-row-init
 loop-row-init g c = record {
   files = refl;
   count = refl;
-  faults = omega arith;
+  faults = refl;
   painted = IfSome-each (g.S.Shelf.files c.args.shelf.now) (λ files told. none_painted (file_at files c.args.k) c.args.at c.args.out.now c.requires.whole);
 }
 
@@ -40,9 +41,9 @@ loop-row-preserved g c =
     let sound : IsLayerIndex c.args.layer.now.head c.rows-rows.result.now = c.rows-rows.ensures.sound in
     let are = rest_rows c.args.layer.now.head.sectors c.args.layer.now.head.index_at c.rows-rows.result.now c.split_at.result.1.now c.rows_before-first.result sound.sound c.split_at.ensures.back in
     record {
-      files = c.paint_row.ensures.same_files ∙ c.loop-row.invariant.files;
-      count = c.paint_row.ensures.same_count ∙ c.loop-row.invariant.count;
-      faults = let more = c.paint_row.ensures.cause.later in omega (arith, more, c.loop-row.invariant.faults);
+      files = c.paint_row.ensures.same.files ∙ c.loop-row.invariant.files;
+      count = c.paint_row.ensures.same.count ∙ c.loop-row.invariant.count;
+      faults = calm_ok g.S.Shelf.faults c.loop-row.shelf c.paint_row.new.shelf c.in_ok-paint_row.ensures.cause ∙ c.loop-row.invariant.faults;
       painted = IfSome-both (g.S.Shelf.files c.args.shelf.now) (g.S.Shelf.files c.loop-row.shelf) c.loop-row.invariant.files c.loop-row.invariant.painted c.in_ok-paint_row.ensures.painted
           (λ files told so_far paints.
           next_painted (file_at files c.args.k) c.args.layer.now.head.sectors c.args.layer.now.head.index_at _ c.split_at.result.1.now c.loop-row.row-index _ c.args.at c.args.out.now c.loop-row.out c.paint_row.new.out

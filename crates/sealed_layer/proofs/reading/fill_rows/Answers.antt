@@ -1,6 +1,7 @@
 use Rattle.std.proofs.Common.{◌≡◌, ℕ, ◌+◌, ◌*◌, ◌≤◌, List, length, take, drop, ap, ◌∙◌, arith}
 use Rattle.std.proofs.lemmas.List.{length-take}
 use Rattle.std.proofs.lemmas.Result.{err_from_is_err_and}
+use Rattle.sector_extent.specs.CauseLaws.{calm_ok}
 use Rattle.layer_shelf.specs.Shelves.{file_at}
 use Rattle.seg_mapping.specs.declared.Row.{Row}
 use Rattle.sealed_layer.proofs.ReadLemmas.{more_read, stopped}
@@ -36,9 +37,9 @@ loop-rows-preserved g c =
     let long : length c.read.new.out ≡ size = c.read.auto.out in
     let at : c.len-in-loop-rows-2.result ≡ length old = c.len-in-loop-rows-2.ensures ∙ c.loop-rows.rows.ok.0 in
     record {
-      files = c.read.ensures.same_files ∙ c.loop-rows.invariant.files;
-      count = c.read.ensures.same_count ∙ c.loop-rows.invariant.count;
-      faults = let more = c.read.ensures.cause.later in omega (arith, more, c.loop-rows.invariant.faults);
+      files = c.read.ensures.same.files ∙ c.loop-rows.invariant.files;
+      count = c.read.ensures.same.count ∙ c.loop-rows.invariant.count;
+      faults = calm_ok g.S.Shelf.faults c.loop-rows.shelf c.read.new.self c.in_ok-read.ensures.cause ∙ c.loop-rows.invariant.faults;
       few = omega (arith, all, long);
       room = omega (arith, room, c.loop-rows.invariant.room);
       low = c.in_ok-low.ensures.low;

@@ -9,7 +9,7 @@ abbrev pub invariant-loop-rows : goal.invariant-loop-rows
 invariant-loop-rows g l = record {
   files : g.S.Shelf.files l.shelf ≡ g.S.Shelf.files l.initial.shelf;
   count : g.S.Shelf.count l.shelf ≡ g.S.Shelf.count l.initial.shelf;
-  faults : g.S.Shelf.faults l.initial.shelf ≤ g.S.Shelf.faults l.shelf;
+  faults : g.S.Shelf.faults l.shelf ≡ g.S.Shelf.faults l.initial.shelf;
   few : length l.rows.items ≤ l.count;
   room : l.count ≤ vec_capacity l.rows;
   low : l.low ≡ end_of 0 l.rows.items;

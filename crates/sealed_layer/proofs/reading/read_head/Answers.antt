@@ -12,7 +12,7 @@ returns-then-not-is_trailer-clause-fault g c =
     let front : List ℕ = c.read.new.out in let end : List ℕ = c.read-2.new.out in
     let differs : (end ≡ slice_set front 12 6 → ⊥) = λ same. grind (arith, c.is_trailer.ensures, c.if-not-is_trailer.true, same) in
     let it : IfSome (g.S.Shelf.files c.args.shelf.now) (λ files. IsLayerFault (file_at files c.args.k) TrailerDiffers) =
-    IfSome-both (g.S.Shelf.files c.args.shelf.now) (g.S.Shelf.files c.read.new.self) c.read.ensures.same_files c.in_ok-read.ensures.bytes c.in_ok-read-2.ensures.bytes
+    IfSome-both (g.S.Shelf.files c.args.shelf.now) (g.S.Shelf.files c.read.new.self) c.read.ensures.same.files c.in_ok-read.ensures.bytes c.in_ok-read-2.ensures.bytes
     (λ files told front_is end_is.
     not_framed (file_at files c.args.k) front end c.in_ok-head.head c.args.len c.requires.long (c.requires.told files told) front_is c.in_ok-head.ensures.found.0 c.in_ok-head.ensures.found.1 end_is differs) in it
 
@@ -21,6 +21,6 @@ returns-clause-found g c =
     let front : List ℕ = c.read.new.out in let end : List ℕ = c.read-2.new.out in
     let same : end ≡ slice_set front 12 6 = c.is_trailer.ensures.0 c.if-not-is_trailer.false in
     let it : IfSome (g.S.Shelf.files c.args.shelf.now) (λ files. IsFramed (file_at files c.args.k) c.in_ok-head.head) =
-    IfSome-both (g.S.Shelf.files c.args.shelf.now) (g.S.Shelf.files c.read.new.self) c.read.ensures.same_files c.in_ok-read.ensures.bytes c.in_ok-read-2.ensures.bytes
+    IfSome-both (g.S.Shelf.files c.args.shelf.now) (g.S.Shelf.files c.read.new.self) c.read.ensures.same.files c.in_ok-read.ensures.bytes c.in_ok-read-2.ensures.bytes
     (λ files told front_is end_is.
     framed (file_at files c.args.k) front end c.in_ok-head.head c.args.len c.requires.long (c.requires.told files told) front_is c.in_ok-head.ensures.found.0 c.in_ok-head.ensures.found.1 end_is same) in it

@@ -11,9 +11,9 @@ returns-in_err-rows-clause-fault g c =
     let p = err_from_is_err_and c.from_residual-in_err-rows.result c.from_residual-in_err-rows.ensures.1 in
     let ok = c.in_ok-check_index.ensures.ok in
     let front : IfSome (g.S.Shelf.files c.args.shelf.now) (λ files. (c.in_ok-len.len ≡ length (file_at files c.args.k)) × IsFramed (file_at files c.args.k) c.in_ok-head.head) =
-    IfSome-both (g.S.Shelf.files c.args.shelf.now) (g.S.Shelf.files c.length.new.self) c.length.ensures.same_files c.in_ok-len.ensures.length c.in_ok-head.ensures.found (λ files told size framed. (size, framed)) in
+    IfSome-both (g.S.Shelf.files c.args.shelf.now) (g.S.Shelf.files c.length.new.self) c.length.ensures.same.files c.in_ok-len.ensures.length c.in_ok-head.ensures.found (λ files told size framed. (size, framed)) in
     rw (p.1, p.2)
-    (IfSome-both (g.S.Shelf.files c.args.shelf.now) (g.S.Shelf.files c.read_head.new.shelf) (c.read_head.ensures.same_files ∙ c.length.ensures.same_files) front c.in_err-rows.ensures.fault
+    (IfSome-both (g.S.Shelf.files c.args.shelf.now) (g.S.Shelf.files c.read_head.new.shelf) (c.read_head.ensures.same.files ∙ c.length.ensures.same.files) front c.in_err-rows.ensures.fault
     (λ files told both stop.
     stop_is_fault (file_at files c.args.k) c.in_ok-head.head c.in_err-rows.field-0.0 both.1 ok.0
     (subst (λ (n : ℕ). IsIndexPlace n c.in_ok-head.head.index_at c.in_ok-head.head.rows) both.0 ok.1) stop))
