@@ -19,7 +19,7 @@ pub option_or-none : {T : Type 0} (o : Option T) → o ≡ option_or o None
 option_or-none None = refl
 option_or-none (Some x) = refl
 
-option_or-assoc : {T : Type 0} (a b c : Option T) → option_or (option_or a b) c ≡ option_or a (option_or b c)
+pub option_or-assoc : {T : Type 0} (a b c : Option T) → option_or (option_or a b) c ≡ option_or a (option_or b c)
 option_or-assoc None b c = refl
 option_or-assoc (Some x) b c = refl
 

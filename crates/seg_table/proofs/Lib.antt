@@ -1,3 +1,10 @@
 pub mod CellLaws
+pub mod ChangeLaws
+pub mod ClearLaws
+pub mod Halving
+pub mod LeafLaws
 pub mod PieceLaws
+pub mod PutLaws
+pub mod RestLaws
 mod RunSteps
+pub mod SortedLaws

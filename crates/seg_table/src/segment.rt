@@ -1,4 +1,6 @@
-ghost use Rattle.std.specs.Prelude.{◌≡◌};
+ghost use Rattle.std.specs.Prelude.{◌≡◌, ℕ, ◌+◌, ◌<◌, ◌≤◌};
+ghost use Rattle.seg_table.specs.Cells.{what_at};
+ghost use Rattle.seg_table.specs.Put.{IsPut};
 
 use sector_extent::Extent;
 
@@ -33,4 +35,24 @@ impl What {
 pub struct Segment {
     pub extent: Extent,
     pub what: What,
+}
+
+// The part of a segment from one sector up to another.
+pub(crate) fn part(segment: &Segment, from: u64, until: u64) -> Segment
+    requires put { IsPut segment.now }
+    requires some { from < until }
+    requires after { segment.now.extent.at ≤ from }
+    requires before { until ≤ segment.now.extent.at + segment.now.extent.count }
+    ensures at { result.extent.at ≡ from }
+    ensures end { result.extent.at + result.extent.count ≡ until }
+    ensures put { IsPut result }
+    ensures says { (sector : ℕ) → from ≤ sector → what_at result sector ≡ what_at segment.now sector }
+{
+    Segment {
+        extent: Extent {
+            at: from,
+            count: (until - from) as u32,
+        },
+        what: segment.what.onward(from - segment.extent.at),
+    }
 }

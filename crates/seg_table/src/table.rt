@@ -1,8 +1,10 @@
-ghost use Rattle.std.specs.Prelude.{◌≡◌, ℕ, ◌+◌, ◌^◌, ◌<◌, ◌≤◌, ◌↔◌, ◌⊎◌, All, IfSome, IsNone, None, OnOk, take, drop, length};
+ghost use Rattle.std.specs.Prelude.{◌≡◌, ℕ, ◌+◌, ◌-◌, ◌*◌, ◌^◌, ◌<◌, ◌≤◌, ◌↔◌, ◌⊎◌, All, IfSome, IsNone, None, OnOk, take, drop, length};
 ghost use Rattle.seg_table.specs.Cells.{cells_of, IsEdge, Sets};
 ghost use Rattle.seg_table.specs.Pieces.{AreCells, IsNext, IsUnparted};
 ghost use Rattle.seg_table.specs.Put.{Fits};
 
+use crate::change::put_uncounted;
+use crate::leaf::{Leaf, count_in, fill_spares};
 use crate::search::{find_in, walk_uncounted};
 use crate::segment::{Segment, What};
 use sector_extent::{Extent, Found, Memory, Steps};
@@ -13,19 +15,26 @@ use std::sync::ledger::{Blank, Ledger};
 /// Which sectors of an image are set, and to what. A later put hides an earlier one.
 #[derive(Drop)]
 pub struct SegTable {
-    puts: Vec<Segment>,
+    alloc: Global,
+    leaves: Vec<Leaf>,
+    // empty or not, they are there for leaves to come
+    spares: Vec<Leaf>,
+    // for how many puts there is room
+    spare: usize,
 }
 
 impl Model for SegTable {
-    ghost use Rattle.std.specs.Prelude.{◌-◌, All, vec_len, vec_capacity};
+    ghost use Rattle.std.specs.Prelude.{vec_len, vec_capacity};
     ghost use Rattle.seg_table.specs.Cells.{Table};
-    ghost use Rattle.seg_table.specs.Put.{IsPut};
+    ghost use Rattle.seg_table.specs.Segments.{AreRoomy, joined};
 
     ghost Value = { Table };
 
-    ghost view = { λ table. record { segments = table.puts.items; spare = vec_capacity table.puts - vec_len table.puts } };
+    ghost view = { λ table. record { segments = joined table.leaves.items; spare = table.spare } };
 
-    ghost invariant = { λ table. All IsPut table.puts.items };
+    ghost invariant = { λ table.
+        AreRoomy table.leaves.items (vec_len table.leaves) (vec_capacity table.leaves)
+        (vec_len table.spares) table.spare };
 }
 
 impl SegTable {
@@ -35,17 +44,26 @@ impl SegTable {
         ensures len { length result.segments ≡ 0 }
     {
         SegTable {
-            puts: Vec::new(alloc),
+            alloc,
+            leaves: Vec::new(alloc),
+            spares: Vec::new(alloc),
+            spare: 0,
         }
     }
 
-    /// Makes room for so many puts at least, and keeps the room that there is.
+    /// Makes room for so many puts at least, and keeps the room that there is. Each put may want a
+    /// leaf of 8 KiB, so a long list is put in parts, with room for one part at a time.
     pub fn reserve(&mut self, puts: usize) -> Result<(), Memory>
         ensures ok { OnOk result (puts ≤ self.new.spare) }
         ensures same { self.new.segments ≡ self.old.segments }
         ensures room { self.old.spare ≤ self.new.spare }
     {
-        self.puts.reserve(puts)?;
+        if puts <= self.spare {
+            return Ok(());
+        }
+        self.leaves.reserve(puts)?;
+        fill_spares(self.alloc, &mut self.spares, puts)?;
+        self.spare = puts;
         Ok(())
     }
 
@@ -61,7 +79,9 @@ impl SegTable {
             → IsEdge self.old.segments sector ⊎ ((sector ≡ extent.at) ⊎ (sector ≡ extent.at + extent.count)) }
         ensures len { length self.new.segments ≤ length self.old.segments + 2 }
     {
-        self.puts.push_reserved(Segment { extent, what });
+        let segment = Segment { extent, what };
+        put_uncounted::<Brand>(&mut self.leaves, &mut self.spares, segment, Blank::new(1));
+        self.spare -= 1;
     }
 
     /// Writes the segments inside the `count` sectors from `at` on into `out`, up to the sector
@@ -82,8 +102,9 @@ impl SegTable {
         ensures unparted { All (IsUnparted self.now.segments (at + count)) (take result.pieces out.new) }
         ensures rest { drop result.pieces out.new ≡ drop result.pieces out.old }
         ensures counted { steps.old ≤ steps.new }
+        ensures bound { 2 ^ (steps.new - steps.old - result.pieces) ≤ 1024 * (2 * length self.now.segments + 1) }
     {
-        find_in(self.puts.as_slice(), at, at + count as u64, out, steps)
+        find_in(self.leaves.as_slice(), at, at + count as u64, out, steps)
     }
 
     /// The first segment that ends past `from`. Of one that begins before `from` it is the part
@@ -93,13 +114,13 @@ impl SegTable {
         ensures none { IsNone result ↔ ((sector : ℕ) → from ≤ sector → cells_of self.now sector ≡ None) }
         ensures unparted { IfSome result (IsUnparted self.now.segments (2 ^ 31)) }
     {
-        walk_uncounted::<Brand>(self.puts.as_slice(), from, Blank::new(1))
+        walk_uncounted::<Brand>(self.leaves.as_slice(), from, Blank::new(1))
     }
 
     /// How many segments the table keeps.
     pub fn len(&self) -> usize
         ensures { result ≡ length self.now.segments }
     {
-        self.puts.len()
+        count_in(self.leaves.as_slice())
     }
 }

@@ -1,0 +1,4 @@
+use Rattle.seg_table.proofs.plain.PlainTable.walk.Given as goal
+
+abbrev pub ghosts-walk_uncounted : goal.ghosts-walk_uncounted
+ghosts-walk_uncounted a = record { name = a.blank.name; parts = a.blank.parts }
