@@ -1,7 +1,9 @@
 -- One set more.
-use Rattle.std.proofs.Common.{◌≡◌, ℕ, ◌+◌, ◌≤◌, List, [], ◌∷◌, ◌++◌, refl, sym, ap, ◌∙◌, subst, inl, inr, ⊎_elim, arith, Bool, true, false}
-use Rattle.std.specs.Prelude.{◌⊎◌, Result, Ok, Err, OnOk, OnErr}
+use Rattle.std.proofs.Common.{◌≡◌, ℕ, ◌+◌, ◌<◌, ◌≤◌, List, [], ◌∷◌, ◌++◌, refl, sym, ap, ◌∙◌, subst, inl, inr, ⊎_elim, arith, Bool, true, false}
+use Rattle.std.specs.Prelude.{◌⊎◌, Result, Ok, Err, OnOk, OnErr, IsErr}
 use Rattle.std.proofs.lemmas.List.{reverse-append}
+use Rattle.sector_extent.specs.Causes.{Charges}
+use Rattle.sector_extent.specs.CauseLaws.{calm_ok}
 use Rattle.block_disk.specs.DiskState.{DiskState, Files, Leaves}
 use Rattle.block_disk.specs.Claims.{FileRunBy}
 use Rattle.block_disk.proofs.Moments.{by_started, by_joined, by_weakened}
@@ -81,7 +83,52 @@ in_turn_more result file old mid new start before after bodies body acts so_far 
       same = more_same result before after body ok err ∙ so_far.same;
     }
 
-pub at_most_one_more : {T E : Type 0} (result : Result T E) (before after : Mark) (body : List ℕ)
-    → OnOk result (IsSet before body after) → OnErr result (IsSameBut before after × Attempts body before.rest after.rest) → after.sequence ≤ before.sequence + 1
-at_most_one_more (Ok value) before after body ok err = omega (arith, ap (λ (m : Mark). m.sequence) ok)
-at_most_one_more (Err error) before after body ok err = omega (arith, ap (λ (m : Mark). m.sequence) err.0)
+-- how far a list of sets has come: each set that failed raised the count of faults, and nothing else did
+pub record IsCounted (first_sequence first_count sets sequence count : ℕ) : Type 0 where
+  pub low : first_sequence ≤ sequence
+  pub high : sequence ≤ first_sequence + sets
+  pub each : first_count + (first_sequence + sets) ≤ count + sequence
+  pub only : (count ≡ first_count) ⊎ (sequence < first_sequence + sets)
+
+-- what a set makes of the sequence and of the count of faults
+abbrev GoesOrFails : ℕ → ℕ → ℕ → ℕ → Type 0
+GoesOrFails sequence count new_sequence new_count =
+    ((new_sequence ≡ sequence + 1) × (new_count ≡ count)) ⊎ ((new_sequence ≡ sequence) × (count < new_count))
+
+goes_or_fails : {T E S : Type 0} (result : Result T E) (faults : S → ℕ) (old new : S) (before after : Mark) (body : List ℕ)
+    → OnOk result (IsSet before body after) → OnErr result (IsSameBut before after × Attempts body before.rest after.rest)
+    → Charges faults old new (IsErr result) → GoesOrFails before.sequence (faults old) after.sequence (faults new)
+goes_or_fails (Ok value) faults old new before after body ok err charges = inl (ap (λ (m : Mark). m.sequence) ok, calm_ok faults old new charges)
+goes_or_fails (Err error) faults old new before after body ok err charges = inr (ap (λ (m : Mark). m.sequence) err.0, charges.failed refl)
+
+more_counted : (s f sets sequence count new_sequence new_count : ℕ) → IsCounted s f sets sequence count
+    → GoesOrFails sequence count new_sequence new_count → IsCounted s f (sets + 1) new_sequence new_count
+more_counted s f sets sequence count new_sequence new_count so_far (inl went) = record {
+  low = omega (arith, so_far.low, went.0);
+  high = omega (arith, so_far.high, went.0);
+  each = omega (arith, so_far.each, went.0, went.1);
+  only = ⊎_elim (λ same. inl (went.1 ∙ same)) (λ below. inr (omega (arith, below, went.0))) so_far.only;
+}
+more_counted s f sets sequence count new_sequence new_count so_far (inr failed) = record {
+  low = omega (arith, so_far.low, failed.0);
+  high = omega (arith, so_far.high, failed.0);
+  each = omega (arith, so_far.each, failed.0, failed.1);
+  only = inr (omega (arith, so_far.high, failed.0));
+}
+
+-- one set more
+pub set_counted : {T E S : Type 0} (result : Result T E) (faults : S → ℕ) (old new : S) (before after : Mark) (body : List ℕ) (s f sets : ℕ)
+    → IsCounted s f sets before.sequence (faults old)
+    → OnOk result (IsSet before body after) → OnErr result (IsSameBut before after × Attempts body before.rest after.rest)
+    → Charges faults old new (IsErr result) → IsCounted s f (sets + 1) after.sequence (faults new)
+set_counted result faults old new before after body s f sets so_far ok err charges =
+    more_counted s f sets before.sequence (faults old) after.sequence (faults new) so_far (goes_or_fails result faults old new before after body ok err charges)
+
+-- all of them
+pub sets_charge : {S : Type 0} (faults : S → ℕ) (old new : S) (s sets sequence failed : ℕ) → IsCounted s (faults old) sets sequence (faults new)
+    → failed + sequence ≡ s + sets → Charges faults old new (0 < failed)
+sets_charge faults old new s sets sequence failed counted is = record {
+  later = omega (arith, counted.each, counted.high);
+  failed = λ some. omega (arith, some, counted.each, is);
+  only = λ rose. ⊎_elim (λ same. absurd (omega (arith, rose, same))) (λ below. omega (arith, below, is)) counted.only;
+}

@@ -1,4 +1,6 @@
 pub mod Front
 pub mod InTurn
+pub mod NewFile
 pub mod Runs
+pub mod Settled
 pub mod SlotWrites

@@ -55,6 +55,10 @@ IsFilled now mark body = (file : List ℕ) → now.may_leave mark.file file
 abbrev pub MayHold : Mark → List ℕ → Type 0
 MayHold mark body = (body ≡ mark.body) ⊎ (mark.rest ≡ Attempted body)
 
+-- a crash leaves the body of the last set that succeeded, and no other
+abbrev pub IsSettled : Mark → Type 0
+IsSettled mark = (body : List ℕ) → MayHold mark body → body ≡ mark.body
+
 -- the file holds a body that was attempted, with the sequence
 abbrev pub ShowsAttempt : Rest → ℕ → List ℕ → Type 0
 ShowsAttempt Closed sequence file = ⊥

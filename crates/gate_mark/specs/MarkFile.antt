@@ -1,7 +1,7 @@
 -- The file of a mark: two slots of 512 bytes, each with a gate, a sequence and a body.
-use Rattle.std.specs.Prelude.{◌≡◌, ℕ, ◌+◌, List, length, slice_index, Bool, true, false, Option, None, Some, if◌then◌else◌, ◌==◌, nat_lt}
+use Rattle.std.specs.Prelude.{◌≡◌, ℕ, ◌+◌, List, ◌∷◌, ◌++◌, length, replicate, slice_index, Bool, true, false, Option, None, Some, if◌then◌else◌, ◌==◌, nat_lt}
 use Rattle.std.specs.Option.{option_map}
-use Rattle.std.specs.Int.{from_le_bytes, w64}
+use Rattle.std.specs.Int.{from_le_bytes, to_le_bytes, w64}
 use Rattle.block_disk.specs.Changes.{piece}
 use Rattle.gate_mark.specs.declared.mark.Slot.{Slot}
 use Rattle.gate_mark.specs.declared.mark.Slot.TheVariants.{First, Second}
@@ -44,3 +44,11 @@ mark_of file = if nat_lt (length file) 1024 then None else option_map (λ slot. 
 -- the file holds this sequence and this body
 abbrev pub Shows : ℕ → List ℕ → List ℕ → Type 0
 Shows sequence body file = mark_of file ≡ Some (sequence, body)
+
+-- the bytes of a slot with this gate, sequence and body
+abbrev pub slot_bytes : ℕ → ℕ → List ℕ → List ℕ
+slot_bytes gate sequence body = gate ∷ replicate 7 0 ++ to_le_bytes w64 sequence ++ body ++ replicate 448 0
+
+-- the file of a new mark: the first slot is open, with sequence 1 and this body, and the second one is zeros
+unfoldable pub new_mark : List ℕ → List ℕ
+new_mark body = slot_bytes 165 1 body ++ replicate 512 0

@@ -1,13 +1,16 @@
 //! The bytes of the two slots.
-ghost use Rattle.std.specs.Prelude.{◌≡◌, ℕ, ◌+◌, ◌^◌, ◌<◌, ◌≤◌, ◌==◌, ◌↔◌, List, length, IsTrue, IfOk, OnOk, replicate};
+ghost use Rattle.std.specs.Prelude.{◌≡◌, ℕ, ◌+◌, ◌^◌, ◌<◌, ◌≤◌, ◌==◌, ◌↔◌, List, length, IsTrue, IfOk, OnOk, replicate, IsErr};
 ghost use Rattle.std.specs.Int.{to_le_bytes, w64};
-ghost use Rattle.sector_extent.specs.Causes.{HasCause};
+ghost use Rattle.sector_extent.specs.Causes.{Charges};
 ghost use Rattle.block_disk.specs.Changes.{piece, put, Only};
 ghost use Rattle.block_disk.specs.Claims.{Quiet};
 ghost use Rattle.gate_mark.specs.MarkFile.{gate_of, sequence_of, body_of};
 
 use crate::mark::Slot;
 use block_disk::{Disk, DiskFailed};
+
+// Bytes of both slots.
+const SLOTS: u64 = 1024;
 
 /// What stands in a slot.
 #[derive(Clone, Copy)]
@@ -17,6 +20,7 @@ pub(crate) struct SlotRead {
     pub(crate) body: [u8; 48],
 }
 
+// Puts the bytes at their place.
 fn paste(out: &mut [u8], at: usize, bytes: &[u8])
     requires { at + length bytes.now ≤ length out.old }
     ensures { out.new ≡ put out.old at bytes.now }
@@ -43,6 +47,7 @@ pub(crate) fn closed_slots(body: &[u8; 48]) -> [u8; 1024]
     slots
 }
 
+/// What stands in a slot of these.
 pub(crate) fn read_slot(slots: &[u8; 1024], slot: Slot) -> SlotRead
     ensures is_open { result.is_open ≡ (gate_of slot slots.now == 165) }
     ensures sequence { result.sequence ≡ sequence_of slot slots.now }
@@ -66,14 +71,16 @@ pub(crate) fn read_both<D: Disk>(
     file: u32,
     out: &mut [u8; 1024],
 ) -> Result<bool, DiskFailed>
-    ensures long { IfOk result (λ is_long. IsTrue D.tells → (IsTrue is_long ↔ (1024 ≤ length ((D.state disk.old).seen file)))) }
-    ensures bytes { IfOk result (λ is_long. IsTrue D.tells → IsTrue is_long → out.new ≡ piece 0 1024 ((D.state disk.old).seen file)) }
+    ensures long { IfOk result (λ is_long. IsTrue D.tells
+        → (IsTrue is_long ↔ (1024 ≤ length ((D.state disk.old).seen file)))) }
+    ensures bytes { IfOk result (λ is_long. IsTrue D.tells → IsTrue is_long
+        → out.new ≡ piece 0 1024 ((D.state disk.old).seen file)) }
     ensures durable { OnOk result (Only ((D.state disk.old).seen file) ((D.state disk.new).may_leave file)) }
     ensures quiet { Quiet (D.state disk.old) (D.state disk.new) }
-    ensures cause { HasCause (D.faults disk.old) (D.faults disk.new) result }
+    ensures cause { Charges D.faults disk.old disk.new (IsErr result) }
 {
     disk.sync(file)?;
-    if disk.size(file)? < 1024 {
+    if disk.size(file)? < SLOTS {
         return Ok(false);
     }
     disk.read_at(file, 0, out)?;

@@ -10,7 +10,7 @@ use std::test::Fail;
 
 const FILE: u32 = 3;
 
-/// A disk with a mark that was formatted with bytes 07 and set to bytes 08.
+// A disk with a mark that was formatted with bytes 07 and set to bytes 08.
 fn set_once(alloc: Global) -> Result<(MemDisk, Mark), Fail>
     ensures { IfOk result (λ pair. IsKept (mem_state pair.0) pair.1 × (sequence_in pair.1 ≡ 2)) }
 {
@@ -20,7 +20,7 @@ fn set_once(alloc: Global) -> Result<(MemDisk, Mark), Fail>
     Ok((disk, mark))
 }
 
-/// The first byte of the body that is loaded after the crash, or 0 for no mark.
+// The first byte of the body that is loaded after the crash, or 0 for no mark.
 fn left(disk: MemDisk, choice: CrashChoice) -> Result<u8, Fail> {
     let mut left = disk.crash(choice)?;
     match Mark::load(&mut left, FILE) {
@@ -150,7 +150,9 @@ fn bodies_are_set_in_turn(rt: HostRuntime) -> Result<(), Fail> {
     let (mut disk, mut mark) = set_once(alloc)?;
     // The close of the second set fails.
     disk.fail(CallList::from_vec(vec![in alloc; 6]?));
-    mark.set_each(&mut disk, &[[9; 48], [10; 48], [11; 48]]);
+    let failed = mark.set_each(&mut disk, &[[9; 48], [10; 48], [11; 48]]);
+    assert_eq!(rt; failed, 1);
+    assert!(rt; mark.is_settled());
     assert_eq!(rt; mark.get(), [11; 48]);
     assert_eq!(rt; mark.sequence(), 4);
     assert_eq!(rt; left(disk, CrashChoice::Torn)?, 11);

@@ -8,18 +8,18 @@ use Rattle.block_disk.proofs.Moments.{by_widened, run_weakened, run_joined}
 use Rattle.gate_mark.specs.declared.mark.Mark.{Mark}
 use Rattle.gate_mark.specs.declared.mark.Rest.{Rest}
 use Rattle.gate_mark.specs.declared.mark.Rest.TheVariants.{Closed, Attempted}
-use Rattle.gate_mark.specs.Mark.{file_of, sequence_in, IsKept, MayHold, ShowsEither, Attempts, IsSet, IsSameBut}
+use Rattle.gate_mark.specs.Mark.{file_of, sequence_in, body_in, IsKept, MayHold, ShowsEither, Attempts, IsSet, IsSameBut}
 use Rattle.seg_mapping.specs.declared.Row.{Row}
 use Rattle.flat_image.specs.Left.{Stand}
 use Rattle.top_writer.specs.declared.top.Top.{Top}
 use Rattle.top_writer.specs.Files.{data_file, index_file, mark_file, TopFiles, rows_said, sectors_said}
-use Rattle.top_writer.specs.Fitting.{HasFront, IsCounted, Holds, ViewFits, ViewStored, TopFits, TopGoes}
+use Rattle.top_writer.specs.Fitting.{HasFront, IsCounted, Holds, ViewFits, ViewStored, TopFits, TopGoes, IsAllCounted}
 use Rattle.top_writer.specs.Rows.{IsTopRow, top_sheet}
 use Rattle.top_writer.specs.Showing.{ShowsOne}
 use Rattle.top_writer.specs.Stands.{unchanged, as_before, just_this, this_too}
 use Rattle.top_writer.specs.View.{TopView, view_of, epoch_of}
 use Rattle.top_writer.proofs.ShowLaws.{either_body, counted_shows, synced_rows}
-use Rattle.top_writer.proofs.Going.{contains_more, not_data_mark, not_index_mark}
+use Rattle.top_writer.proofs.Going.{KnowsNow, contains_more, goes_same, not_data_mark, not_index_mark}
 
 contains_first : (s : Stand) (may : List Stand) → Contains (s ∷ may) s
 contains_first s may = (0, omega arith, refl)
@@ -225,3 +225,60 @@ goes_this_too tells old new p q goes = record {
 pub stored_mark : (tells : Bool) (now : DiskState) (n : ℕ) (parent : Option (List ℕ)) (v : TopView) (s : Stand) (may : List Stand)
     → ViewStored tells now n parent v s may → IsKept now v.mark
 stored_mark tells now n parent v s may stored = stored.lasts.mark
+
+-- a top that a body counts with all rows and all sectors is the top as it stands
+counted_is : (n : ℕ) (parent : Option (List ℕ)) (v : TopView) (s u : Stand) (file : List ℕ) (rows : List Row) (synced synced_sectors : ℕ) (body : List ℕ)
+    → Holds n parent v s file rows → IsCounted n file rows synced synced_sectors body u → rows_said body ≡ v.rows → sectors_said body ≡ v.filled → u ≡ s
+counted_is n parent v s u file rows synced synced_sectors body holds counted rows_are sectors_are =
+    let same_rows : u.rows ≡ s.rows = omega (arith, counted.counts.rows_are, rows_are, holds.rows_are) in
+    let same_filled : u.filled ≡ s.filled = omega (arith, counted.counts.sectors_are, sectors_are, holds.filled_are) in
+    let all_rows : take u.rows rows ≡ rows = take_all u.rows rows (omega (arith, same_rows, holds.number, holds.rows_are)) in
+    let same_cells : u.cells ≡ s.cells = counted.cells ∙ ap (top_sheet file n) all_rows ∙ sym holds.cells in
+    λ i. record { cells = same_cells i; rows = same_rows i; filled = same_filled i }
+
+-- where nothing is new, a crash leaves just the top as it stands
+still_fits : (tells : Bool) (now : DiskState) (n : ℕ) (parent : Option (List ℕ)) (v : TopView) (s : Stand) (may : List Stand) → IsAllCounted v
+    → ViewFits tells now n parent v s may → ViewFits tells now n parent v s (s ∷ [])
+still_fits tells now n parent v s may all fits =
+    let lasts = fits.lasts in record {
+      file = fits.file;
+      rows = fits.rows;
+      holds = fits.holds;
+      lasts = record {
+        synced_sectors = lasts.synced_sectors;
+        within = lasts.within;
+        mark_is = lasts.mark_is;
+        mark = lasts.mark;
+        bytes_left = lasts.bytes_left;
+        index_left = lasts.index_left;
+        seen = lasts.seen;
+        bodies = λ body may_hold. let one = lasts.bodies body may_hold in
+            let is = all.settled body may_hold in (
+              s,
+              contains_first s [],
+              subst (IsCounted n fits.file fits.rows v.synced lasts.synced_sectors body)
+                  (counted_is n parent v s one.0 fits.file fits.rows v.synced lasts.synced_sectors body fits.holds one.2 (ap rows_said is ∙ all.rows_are) (ap sectors_said is ∙ all.sectors_are)) one.2,
+            );
+      };
+    }
+
+-- a flush then has nothing to do
+pub goes_still : (tells : Bool) (now : DiskState) (p : Top) → KnowsNow now → IsAllCounted (view_of p) → TopGoes tells now now p p unchanged just_this
+goes_still tells now p now_at all =
+    let goes : TopGoes tells now now p p unchanged as_before = goes_same tells now p p refl now_at in record {
+      epoch = goes.epoch;
+      sectors = goes.sectors;
+      sequence = goes.sequence;
+      fits = λ n parent s may fits. still_fits tells now n parent (view_of p) s may all fits;
+      any_moment = goes.any_moment;
+    }
+
+-- after a set that was done nothing is new
+pub set_counts : (v : TopView) (m : Mark) (body : List ℕ) → rows_said body ≡ v.rows → sectors_said body ≡ v.filled
+    → IsSet v.mark body m → ((b : List ℕ) → MayHold m b → b ≡ body) → IsAllCounted (record v { mark = m })
+set_counts v m body rows sectors is_set bodies =
+    let is : body_in m ≡ body = ap body_in is_set in record {
+      settled = λ b may_hold. bodies b may_hold ∙ sym is;
+      rows_are = ap rows_said is ∙ rows;
+      sectors_are = ap sectors_said is ∙ sectors;
+    }

@@ -44,21 +44,21 @@ front-data_of true filled block bytes told long = record { long = long; same = s
 front-data_of false filled block bytes told long = cc
 
 -- a sector of it behind the block is of zeros
-zeros-at : (filled : ℕ) (block : List ℕ) (place : ℕ) → length block ≡ 4096 → 8 ≤ place → place < 8 + filled
+zeros_at : (filled : ℕ) (block : List ℕ) (place : ℕ) → length block ≡ 4096 → 8 ≤ place → place < 8 + filled
     → sector_at (block ++ replicate {A = ℕ} (512 * filled) 0) place ≡ zero_sector
 unfolding zero_sector
-zeros-at filled block place size from to =
+zeros_at filled block place size from to =
     let zeros : List ℕ = replicate {A = ℕ} (512 * filled) 0 in
     let at : 512 * place ≡ length block + (512 * place - 4096) = omega (arith, size, from) in
     ap (λ (k : ℕ). take 512 (drop k (block ++ zeros))) at
     ∙ ap (take 512) (drop-append-add block zeros (512 * place - 4096) ∙ drop-replicate (512 * place - 4096) (512 * filled) 0)
     ∙ take-replicate 512 (512 * filled - (512 * place - 4096)) 0 (omega (arith, from, to))
 
-blank-entry : (filled : ℕ) (block : List ℕ) (e : Option What) → length block ≡ 4096 → ((place : ℕ) → e ≡ Some (what.Place place) → 8 ≤ place)
+blank_entry : (filled : ℕ) (block : List ℕ) (e : Option What) → length block ≡ 4096 → ((place : ℕ) → e ≡ Some (what.Place place) → 8 ≤ place)
     → ((place : ℕ) → e ≡ Some (what.Place place) → place < 8 + filled) → cell_at (block ++ replicate {A = ℕ} (512 * filled) 0) e ≡ blank_cell e
-blank-entry filled block None size from to = refl
-blank-entry filled block (Some what.Zero) size from to = refl
-blank-entry filled block (Some (what.Place place)) size from to = ap Filled (zeros-at filled block place size (from place refl) (to place refl))
+blank_entry filled block None size from to = refl
+blank_entry filled block (Some what.Zero) size from to = refl
+blank_entry filled block (Some (what.Place place)) size from to = ap Filled (zeros_at filled block place size (from place refl) (to place refl))
 
 -- so where the disk does not tell, the sheet is what the table says of itself
 pub blank-data_of : (tells : Bool) (n filled : ℕ) (block bytes : List ℕ) (rows : List Row) (table : List Segment) → length block ≡ 4096
@@ -73,5 +73,5 @@ blank-data_of false n filled block bytes rows table size is untold =
     (λ i below.
     let within : i < n = omega (arith, below, long) in
     get_or-map-range_with_len f 0 n i i Hole within (omega arith)
-    ∙ (sym (is.same i within) ∙ blank-entry filled block (cell_in table i) size (is.from i) (is.to i))
+    ∙ (sym (is.same i within) ∙ blank_entry filled block (cell_in table i) size (is.from i) (is.to i))
     ∙ sym (get_or-map-range_with_len g 0 n i i Hole within (omega arith)))

@@ -8,7 +8,7 @@ use Rattle.block_disk.specs.DiskState.{DiskState, Files}
 use Rattle.block_disk.specs.Claims.{Beside, Run, FileRun}
 use Rattle.block_disk.proofs.Moments.{by_widened, run_weakened, run_joined}
 use Rattle.gate_mark.specs.declared.mark.Mark.{Mark}
-use Rattle.gate_mark.specs.Mark.{file_of, sequence_in, IsKept, MayHold}
+use Rattle.gate_mark.specs.Mark.{file_of, sequence_in, body_in, IsKept, MayHold}
 use Rattle.gate_mark.proofs.SlotWrites.{put_nil}
 use Rattle.lsmt_header.specs.declared.head.Kind.{Kind}
 use Rattle.lsmt_header.specs.declared.head.Kind.TheVariants.{TopBytes, TopRows}
@@ -58,13 +58,14 @@ pub any_then : (epoch file number : ℕ) (old mid new : DiskState) → number �
 any_then epoch file number old mid new same touched first run =
     run_joined (TopFiles epoch) old mid new (λ (files : Files). Unit {0}) first (any_wide epoch file number mid new same touched run)
 
-pub new_mark : (now : DiskState) (file number : ℕ) (mark : Mark) (body : List ℕ) → number ≡ file
-    → (file_of mark ≡ number) × (sequence_in mark ≡ 1) → ((b : List ℕ) → MayHold mark b → b ≡ body) → IsKept now mark
+pub mark_made : (now : DiskState) (file number : ℕ) (mark : Mark) (body : List ℕ) → number ≡ file
+    → (file_of mark ≡ number) × (sequence_in mark ≡ 1) × (body_in mark ≡ body) → ((b : List ℕ) → MayHold mark b → b ≡ body) → IsKept now mark
     → rows_said body ≡ 0 → sectors_said body ≡ 0 → IsNewMark now file mark
-new_mark now file number mark body same is bodies kept rows sectors = record {
+mark_made now file number mark body same is bodies kept rows sectors = record {
   file_is = is.0 ∙ same;
   sequence = is.1;
   kept = kept;
+  settled = λ b may_hold. bodies b may_hold ∙ sym is.2;
   counts = λ b may_hold. let e = bodies b may_hold in record {
     rows_are = ap rows_said e ∙ rows;
     sectors_are = ap sectors_said e ∙ sectors;

@@ -47,6 +47,10 @@ size_said file = (raw_head (take 4096 file)).sectors
 unfoldable pub parent_said : List ℕ → List ℕ
 parent_said file = (raw_head (take 4096 file)).parent
 
+-- the sectors that the head of a top's file says are those of the image
+abbrev pub HasSectors : ℕ → List ℕ → Type 0
+HasSectors n file = size_said file ≡ n
+
 -- it is the parent that is asked for, where one is asked for
 abbrev pub IsParent : Option (List ℕ) → List ℕ → Type 0
 IsParent None parent = Unit {0}

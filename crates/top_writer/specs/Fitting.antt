@@ -2,7 +2,7 @@
 use Rattle.std.specs.Prelude.{◌≡◌, ℕ, ◌+◌, ◌*◌, ◌<◌, ◌≤◌, List, length, take, drop, reverse, All, Contains, Bool, IsTrue, Option, Some, None}
 use Rattle.block_disk.specs.DiskState.{DiskState}
 use Rattle.block_disk.specs.Claims.{Run}
-use Rattle.gate_mark.specs.Mark.{file_of, IsKept, MayHold}
+use Rattle.gate_mark.specs.Mark.{file_of, body_in, IsKept, IsSettled, MayHold}
 use Rattle.seg_mapping.specs.declared.Row.{Row}
 use Rattle.seg_table.specs.declared.segment.Segment.{Segment}
 use Rattle.seg_table.specs.declared.segment.What.TheVariants as what
@@ -12,7 +12,7 @@ use Rattle.flat_image.specs.History.{HasRoom}
 use Rattle.flat_image.specs.Left.{Stand}
 use Rattle.flat_image.specs.RowCells.{AreSpelled, cell_of}
 use Rattle.top_writer.specs.declared.top.Top.{Top}
-use Rattle.top_writer.specs.Files.{data_file, index_file, mark_file, TopFiles, HasBlock, size_said, parent_said, IsParent}
+use Rattle.top_writer.specs.Files.{data_file, index_file, mark_file, TopFiles, HasBlock, HasSectors, parent_said, IsParent, rows_said, sectors_said}
 use Rattle.top_writer.specs.Rows.{IsTopRow, top_sheet}
 use Rattle.top_writer.specs.Showing.{Counts, ShowsOne}
 use Rattle.top_writer.specs.Stands.{this_too}
@@ -34,12 +34,12 @@ pub record IsTableOf (n filled : ℕ) (file : List ℕ) (rows : List Row) (segme
 -- the head of a data file, of an index file
 pub record IsData (n : ℕ) (parent : Option (List ℕ)) (file : List ℕ) : Type 0 where
   pub head : HasBlock TopBytes file
-  pub size : size_said file ≡ n
+  pub size : HasSectors n file
   pub parent_is : IsParent parent (parent_said file)
 
 pub record IsIndex (n : ℕ) (file : List ℕ) (rows : List Row) : Type 0 where
   pub head : HasBlock TopRows file
-  pub size : size_said file ≡ n
+  pub size : HasSectors n file
   pub long : 4096 + 16 * length rows ≤ length file
   pub spelled : AreSpelled file 4096 rows
 
@@ -106,6 +106,15 @@ pub record IsFitted (tells : Bool) (now : DiskState) (top : Top) : Type 0 where
   pub stand : Stand
   pub may : List Stand
   pub fits : TopFits tells now n parent top stand may
+
+-- nothing is new: the mark counts all rows and sectors of the top, and a crash leaves no other body of it
+pub record IsAllCounted (v : TopView) : Type 0 where
+  pub settled : IsSettled v.mark
+  pub rows_are : rows_said (body_in v.mark) ≡ v.rows
+  pub sectors_are : sectors_said (body_in v.mark) ≡ v.filled
+
+abbrev pub IsFlushed : Top → Type 0
+IsFlushed top = IsAllCounted (view_of top)
 
 -- A call on a top and its files: what the top becomes, and what a crash may leave of it then. At each moment of the call
 -- a crash leaves the top as it was when the call began, or what it might have left then.

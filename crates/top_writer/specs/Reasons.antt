@@ -10,7 +10,7 @@ use Rattle.flat_image.specs.History.{HasRoom, IsOver}
 use Rattle.flat_image.specs.RowCells.{AreSpelled}
 use Rattle.top_writer.specs.declared.fault.TopReason.{TopReason}
 use Rattle.top_writer.specs.declared.fault.TopReason.TheVariants as why
-use Rattle.top_writer.specs.Files.{Stored, HasBlock, size_said, parent_said, IsParent, rows_said, sectors_said}
+use Rattle.top_writer.specs.Files.{Stored, HasBlock, HasSectors, size_said, parent_said, IsParent, rows_said, sectors_said}
 use Rattle.top_writer.specs.Rows.{IsStored, IsTopRow}
 
 -- what passes the first test, the first two, and so on
@@ -24,7 +24,7 @@ abbrev pub HasBlocks : Stored → Type 0
 HasBlocks t = HasBytes t × HasBlock TopRows t.index
 
 abbrev pub HasSizes : ℕ → Stored → Type 0
-HasSizes n t = HasBlocks t × (size_said t.bytes ≡ n) × (size_said t.index ≡ n)
+HasSizes n t = HasBlocks t × HasSectors n t.bytes × HasSectors n t.index
 
 abbrev pub HasParent : ℕ → Option (List ℕ) → Stored → Type 0
 HasParent n parent t = HasSizes n t × IsParent parent (parent_said t.bytes)
@@ -82,7 +82,7 @@ abbrev pub IsReason : ℕ → Option (List ℕ) → Stored → TopReason → Typ
 IsReason n parent t why.HeadShort = ¬ AreLong t
 IsReason n parent t (why.Bytes fault) = AreLong t × IsFault TopBytes (raw_head (take 4096 t.bytes)) fault
 IsReason n parent t (why.Rows fault) = HasBytes t × IsFault TopRows (raw_head (take 4096 t.index)) fault
-IsReason n parent t (why.HeadSize size) = HasBlocks t × (size ≢ n) × ((size ≡ size_said t.bytes) ⊎ ((size_said t.bytes ≡ n) × (size ≡ size_said t.index)))
+IsReason n parent t (why.HeadSize size) = HasBlocks t × (size ≢ n) × ((size ≡ size_said t.bytes) ⊎ (HasSectors n t.bytes × (size ≡ size_said t.index)))
 IsReason n parent t why.ParentDiffers = HasSizes n t × ¬ IsParent parent (parent_said t.bytes)
 IsReason n parent t why.NoMark = HasParent n parent t × (mark_of t.mark ≡ None)
 IsReason n parent t (why.MarkWorn sequence) = HasParent n parent t × ((body : List ℕ) × Shows sequence body t.mark) × (2 ^ 61 < sequence)

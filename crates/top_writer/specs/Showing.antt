@@ -7,15 +7,15 @@ use Rattle.gate_mark.specs.MarkFile.{Shows}
 use Rattle.flat_image.specs.Left.{Stand}
 use Rattle.flat_image.specs.History.{HasRoom}
 use Rattle.flat_image.specs.RowCells.{AreSpelled}
-use Rattle.top_writer.specs.Files.{Stored, stored_in, HasBlock, size_said, parent_said, IsParent, rows_said, sectors_said}
+use Rattle.top_writer.specs.Files.{Stored, stored_in, HasBlock, HasSectors, parent_said, IsParent, rows_said, sectors_said}
 use Rattle.top_writer.specs.Rows.{IsTopRow, top_sheet}
 
 -- the data file and the index file have the heads of a top of an image of n sectors
 pub record HasHeads (n : ℕ) (parent : Option (List ℕ)) (bytes index : List ℕ) : Type 0 where
   pub bytes_head : HasBlock TopBytes bytes
   pub index_head : HasBlock TopRows index
-  pub bytes_size : size_said bytes ≡ n
-  pub index_size : size_said index ≡ n
+  pub bytes_size : HasSectors n bytes
+  pub index_size : HasSectors n index
   pub parent_is : IsParent parent (parent_said bytes)
 
 -- the body of a mark counts so many rows and sectors, no more than a top may have

@@ -18,30 +18,39 @@ use block_disk::Disk;
 /// a front of the calls that has all before the last flush that answered Ok.
 pub fn top_laws()
     ensures left { (s : Stand) (calls : List Call) → All (IsFlushedFront s calls) (left_by s calls) }
-    ensures moment { (s : Stand) (calls : List Call) → All (IsFlushedFront s calls) (this_too (stand_after s calls) (left_by s calls)) }
+    ensures moment { (s : Stand) (calls : List Call)
+        → All (IsFlushedFront s calls) (this_too (stand_after s calls) (left_by s calls)) }
     // after a flush that answered Ok, just the top as it stands
-    ensures flushed { (s : Stand) (may : List Stand) (calls : List Call) → left_after s may (calls ++ Flushed ∷ []) ≡ stand_after s calls ∷ [] }
+    ensures flushed { (s : Stand) (may : List Stand) (calls : List Call)
+        → left_after s may (calls ++ Flushed ∷ []) ≡ stand_after s calls ∷ [] }
     // what there was at first, and at each flush, whatever it answered, may be left until the next that answers Ok
     ensures start { (s : Stand) (calls : List Call) → AreUnflushed calls → Contains (left_by s calls) s }
-    ensures tried { (s : Stand) (may : List Stand) (front rest : List Call) (call : Call) → IsFlush call → AreUnflushed rest
+    ensures tried { (s : Stand) (may : List Stand) (front rest : List Call) (call : Call)
+        → IsFlush call → AreUnflushed rest
         → Contains (left_after s may (front ++ call ∷ rest)) (stand_after s front) }
 {}
 
 /// How the calls go on a disk, from one state of it to another. A zero and a refused one make no call
 /// of the disk, and a read changes nothing.
 pub fn call_laws<D: Disk>(old: &D, new: &D)
-    ensures zeroed { (p q : Top) (extent : Extent) → extent.at + extent.count ≤ sectors_of p → IsZeroed (view_of p) extent (view_of q)
+    ensures zeroed { (p q : Top) (extent : Extent) → extent.at + extent.count ≤ sectors_of p
+        → IsZeroed (view_of p) extent (view_of q)
         → TopGoes D.tells (D.state old.now) (D.state old.now) p q (with_zero extent.at extent.count) as_before }
-    ensures refused { (p q : Top) → view_of q ≡ view_of p → TopGoes D.tells (D.state old.now) (D.state old.now) p q unchanged as_before }
-    ensures read { (p : Top) → Quiet (D.state old.now) (D.state new.now) → TopGoes D.tells (D.state old.now) (D.state new.now) p p unchanged as_before }
+    ensures refused { (p q : Top) → view_of q ≡ view_of p
+        → TopGoes D.tells (D.state old.now) (D.state old.now) p q unchanged as_before }
+    ensures read { (p : Top) → Quiet (D.state old.now) (D.state new.now)
+        → TopGoes D.tells (D.state old.now) (D.state new.now) p p unchanged as_before }
     // calls on other files
-    ensures other { (n : ℕ) (parent : Option (List ℕ)) (p : Top) (s : Stand) (may : List Stand) → Spares (λ f. ¬ TopFiles (epoch_of p) f) (D.state old.now) (D.state new.now)
+    ensures other { (n : ℕ) (parent : Option (List ℕ)) (p : Top) (s : Stand) (may : List Stand)
+        → Spares (λ f. ¬ TopFiles (epoch_of p) f) (D.state old.now) (D.state new.now)
         → TopFits D.tells (D.state old.now) n parent p s may → TopFits D.tells (D.state new.now) n parent p s may }
     // a crash now, so after a flush that answered Ok with all that was before it
-    ensures now { (n : ℕ) (parent : Option (List ℕ)) (p : Top) (s : Stand) (calls : List Call) (files : Files) → FitsAfter D.tells (D.state old.now) n parent p s calls
+    ensures now { (n : ℕ) (parent : Option (List ℕ)) (p : Top) (s : Stand) (calls : List Call) (files : Files)
+        → FitsAfter D.tells (D.state old.now) n parent p s calls
         → Leaves (D.state old.now) files → ShowsFront (epoch_of p) n parent s calls files }
     // one call more, and a crash at each moment of it
-    ensures next { (n : ℕ) (parent : Option (List ℕ)) (p q : Top) (s : Stand) (calls : List Call) (call : Call) → FitsAfter D.tells (D.state old.now) n parent p s calls
+    ensures next { (n : ℕ) (parent : Option (List ℕ)) (p q : Top) (s : Stand) (calls : List Call) (call : Call)
+        → FitsAfter D.tells (D.state old.now) n parent p s calls
         → TopGoes D.tells (D.state old.now) (D.state new.now) p q (becomes call) (leaves call)
         → GoesOn D.tells (D.state old.now) (D.state new.now) n parent p q s calls call }
 {}

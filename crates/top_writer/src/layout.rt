@@ -15,6 +15,7 @@ pub(crate) const ROW: u64 = 16;
 /// The first sector of the data, counted from the front of the file.
 pub(crate) const FIRST_SECTOR: u64 = 8;
 
+/// The number of the data file.
 pub(crate) fn data_number(epoch: u32) -> u32
     requires { epoch ≤ 255 }
     ensures { result ≡ data_file epoch }
@@ -22,6 +23,7 @@ pub(crate) fn data_number(epoch: u32) -> u32
     4 * epoch + 1
 }
 
+/// The number of the index file.
 pub(crate) fn index_number(epoch: u32) -> u32
     requires { epoch ≤ 255 }
     ensures { result ≡ index_file epoch }
@@ -29,6 +31,7 @@ pub(crate) fn index_number(epoch: u32) -> u32
     4 * epoch + 2
 }
 
+/// The number of the mark file.
 pub(crate) fn mark_number(epoch: u32) -> u32
     requires { epoch ≤ 255 }
     ensures { result ≡ mark_file epoch }

@@ -29,9 +29,11 @@ fn is_parent(asked: Option<[u8; 16]>, parent: &[u8; 16]) -> bool
     }
 }
 
+// The head of the data file.
 fn bytes_head(block: &[u8; 4096]) -> Result<Head, TopReason>
     ensures found { IfOk result (λ head. BlockOf block.now head × (head.kind ≡ TopBytes)) }
-    ensures reason { IfErr result (λ reason. (fault : HeadFault) × (reason ≡ why.Bytes fault) × IsFault TopBytes (raw_head block.now) fault) }
+    ensures reason { IfErr result (λ reason. (fault : HeadFault)
+        × (reason ≡ why.Bytes fault) × IsFault TopBytes (raw_head block.now) fault) }
 {
     match decode_block(block, Kind::TopBytes) {
         Ok(head) => Ok(head),
@@ -39,9 +41,11 @@ fn bytes_head(block: &[u8; 4096]) -> Result<Head, TopReason>
     }
 }
 
+// The head of the index file.
 fn rows_head(block: &[u8; 4096]) -> Result<Head, TopReason>
     ensures found { IfOk result (λ head. BlockOf block.now head × (head.kind ≡ TopRows)) }
-    ensures reason { IfErr result (λ reason. (fault : HeadFault) × (reason ≡ why.Rows fault) × IsFault TopRows (raw_head block.now) fault) }
+    ensures reason { IfErr result (λ reason. (fault : HeadFault)
+        × (reason ≡ why.Rows fault) × IsFault TopRows (raw_head block.now) fault) }
 {
     match decode_block(block, Kind::TopRows) {
         Ok(head) => Ok(head),
@@ -57,7 +61,8 @@ pub(crate) fn check_fronts(
     parent: Option<[u8; 16]>,
 ) -> Result<(), TopReason>
     ensures ok { OnOk result ((t : Stored) → AreFronts t bytes.now index.now → HasParent sectors parent t) }
-    ensures reason { IfErr result (λ reason. (t : Stored) → AreFronts t bytes.now index.now → IsReason sectors parent t reason) }
+    ensures reason { IfErr result (λ reason.
+        (t : Stored) → AreFronts t bytes.now index.now → IsReason sectors parent t reason) }
 {
     let head = bytes_head(bytes)?;
     let rows = rows_head(index)?;
@@ -83,7 +88,8 @@ pub(crate) fn check_counts(
     ensures counts { IfOk result (λ counts. Counts (body_in mark.now) counts.0 counts.1) }
     ensures index { IfOk result (λ counts. 4096 + 16 * counts.0 ≤ index_len) }
     ensures bytes { IfOk result (λ counts. 4096 + 512 * counts.1 ≤ bytes_len) }
-    ensures reason { IfErr result (λ reason. (n : ℕ) (parent : Option (List ℕ)) (t : Stored) → HasMark n parent t (body_in mark.now)
+    ensures reason { IfErr result (λ reason. (n : ℕ) (parent : Option (List ℕ)) (t : Stored)
+        → HasMark n parent t (body_in mark.now)
         → index_len ≡ length t.index → bytes_len ≡ length t.bytes → IsReason n parent t reason) }
 {
     let (rows, sectors) = counts_of(&mark.get());

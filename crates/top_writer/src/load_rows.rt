@@ -1,6 +1,7 @@
 //! The rows of a top, read into its table.
 ghost use Rattle.std.specs.Prelude.{◌≡◌, ℕ, ◌+◌, ◌-◌, ◌*◌, ◌/◌, ◌%◌, ◌^◌, ◌<◌, ◌≤◌, ◌↔◌, [], ◌∷◌, min, None, false, IsTrue, IfOk, IfErr, OnOk, IsErrOf, length};
 ghost use Rattle.std.specs.Option.{option_or};
+ghost use Rattle.sector_extent.specs.Causes.{Charges};
 ghost use Rattle.lsmt_header.specs.Blocks.{IsSize};
 ghost use Rattle.seg_mapping.specs.Rows.{Fits, RowOf};
 ghost use Rattle.seg_table.specs.Cells.{cell_in};
@@ -53,6 +54,7 @@ fn top_row(bytes: &[u8; 16], number: u64, sectors: u64, filled: u64) -> Result<R
     Ok(row)
 }
 
+// The sectors of the image of which a row speaks.
 fn extent_of(row: &Row) -> Extent
     requires range { row.now.offset + row.now.count ≤ 2 ^ 31 }
     ensures at { result.at ≡ row.now.offset }
@@ -70,7 +72,8 @@ fn put_row(table: &mut SegTable, row: &Row)
     requires fits { Fits row.now }
     requires range { row.now.offset + row.now.count ≤ 2 ^ 31 }
     requires place { row.now.zeroed ≡ false → row.now.place + row.now.count ≤ 2 ^ 55 }
-    ensures cells { (sector : ℕ) → cell_in table.new.segments sector ≡ option_or (entry_of (row.now ∷ []) sector) (cell_in table.old.segments sector) }
+    ensures cells { (sector : ℕ) → cell_in table.new.segments sector
+        ≡ option_or (entry_of (row.now ∷ []) sector) (cell_in table.old.segments sector) }
     ensures spare { table.new.spare + 1 ≡ table.old.spare }
 {
     let extent = extent_of(row);
@@ -95,7 +98,8 @@ fn put_rows(
     requires number { number + length piece.now ≤ 2 ^ 50 }
     requires whole { length piece.now % 16 ≡ 0 }
     requires room { length piece.now / 16 ≤ table.old.spare }
-    ensures puts { OnOk result (Puts sectors filled piece.now table.old.segments table.new.segments (length piece.now / 16)) }
+    ensures puts { OnOk result
+        (Puts sectors filled piece.now table.old.segments table.new.segments (length piece.now / 16)) }
     ensures spare { OnOk result (table.new.spare + length piece.now / 16 ≡ table.old.spare) }
     ensures reason { IfErr result (Stops sectors filled piece.now 0 number (length piece.now / 16)) }
 {
@@ -111,7 +115,8 @@ fn put_rows(
 }
 
 /// Reads the first so many rows of the index into a table, in order, so that a later one hides those
-/// before it. The memory is that of the table and of one piece.
+/// before it. The memory is that of the table, which gets room for a piece at a time, and of one
+/// piece.
 pub(crate) fn read_table<D: Disk>(
     alloc: Global,
     disk: &mut D,
@@ -123,14 +128,14 @@ pub(crate) fn read_table<D: Disk>(
     requires epoch { epoch ≤ 255 }
     requires size { IsSize sectors }
     requires few { HasRoom rows filled }
-    ensures loaded { IfOk result (λ table. AreLoaded D.tells sectors filled ((D.state disk.old).seen (index_file epoch)) rows table.segments) }
-    ensures reason { IfErr result (λ fault. IsTrue D.tells → StopsReading sectors filled ((D.state disk.old).seen (index_file epoch)) rows fault) }
+    ensures loaded { IfOk result (λ table.
+        AreLoaded D.tells sectors filled ((D.state disk.old).seen (index_file epoch)) rows table.segments) }
+    ensures reason { IfErr result (λ fault. IsTrue D.tells
+        → StopsReading sectors filled ((D.state disk.old).seen (index_file epoch)) rows fault) }
     ensures quiet { Quiet (D.state disk.old) (D.state disk.new) }
-    ensures failed { IsErrOf result Failed → D.faults disk.old < D.faults disk.new }
-    ensures later { D.faults disk.old ≤ D.faults disk.new }
+    ensures cause { Charges D.faults disk.old disk.new (IsErrOf result Failed) }
 {
     let mut table = SegTable::new(alloc);
-    table.reserve(rows as usize)?;
     let mut buffer = vec![in alloc; 0u8; (ROW * rows.min(PIECE_ROWS)) as usize]?;
     fill_table(
         disk,
@@ -144,7 +149,7 @@ pub(crate) fn read_table<D: Disk>(
     Ok(table)
 }
 
-// Reads the rows into a table that has room for them, a piece at a time.
+// Reads the rows into a table, a piece at a time.
 fn fill_table<D: Disk>(
     disk: &mut D,
     epoch: u32,
@@ -158,17 +163,18 @@ fn fill_table<D: Disk>(
     requires size { IsSize sectors }
     requires few { HasRoom rows filled }
     requires buffer { length buffer.old ≡ 16 * min rows 4096 }
-    requires room { rows ≤ table.old.spare }
     requires empty { (sector : ℕ) → cell_in table.old.segments sector ≡ None }
-    ensures loaded { OnOk result (AreLoaded D.tells sectors filled ((D.state disk.old).seen (index_file epoch)) rows table.new.segments) }
-    ensures reason { IfErr result (λ fault. IsTrue D.tells → StopsReading sectors filled ((D.state disk.old).seen (index_file epoch)) rows fault) }
+    ensures loaded { OnOk result
+        (AreLoaded D.tells sectors filled ((D.state disk.old).seen (index_file epoch)) rows table.new.segments) }
+    ensures reason { IfErr result (λ fault. IsTrue D.tells
+        → StopsReading sectors filled ((D.state disk.old).seen (index_file epoch)) rows fault) }
     ensures quiet { Quiet (D.state disk.old) (D.state disk.new) }
-    ensures failed { IsErrOf result Failed → D.faults disk.old < D.faults disk.new }
-    ensures later { D.faults disk.old ≤ D.faults disk.new }
+    ensures cause { Charges D.faults disk.old disk.new (IsErrOf result Failed) }
 {
     let mut number = 0;
     while number < rows {
         let more = (rows - number).min(PIECE_ROWS);
+        table.reserve(more as usize)?;
         let (piece, _) = buffer.split_at_mut((ROW * more) as usize);
         disk.read_at(index_number(epoch), BLOCK + ROW * number, piece)?;
         put_rows(table, number, piece, sectors, filled)?;

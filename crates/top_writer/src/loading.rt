@@ -1,6 +1,6 @@
 //! Loading a top.
-ghost use Rattle.std.specs.Prelude.{◌≡◌, ℕ, ◌+◌, ◌*◌, ◌^◌, ◌<◌, ◌≤◌, ◌⊎◌, List, Option, [], ◌∷◌, Err, IsTrue, OnOk, IfOk, IfErr, IsErrOf, MatchResult};
-ghost use Rattle.sector_extent.specs.Causes.{HasCause};
+ghost use Rattle.std.specs.Prelude.{◌≡◌, ℕ, ◌+◌, ◌*◌, ◌^◌, ◌<◌, ◌≤◌, ◌⊎◌, List, Option, [], ◌∷◌, Err, IsTrue, OnOk, IfOk, IfErr, IsErrOf, MatchResult, IsErr};
+ghost use Rattle.sector_extent.specs.Causes.{Charges};
 ghost use Rattle.lsmt_header.specs.Blocks.{IsSize};
 ghost use Rattle.block_disk.specs.Changes.{Only};
 ghost use Rattle.block_disk.specs.Claims.{Quiet};
@@ -11,7 +11,7 @@ ghost use Rattle.top_writer.specs.declared.fault.TopFault.TheVariants.{Memory, F
 ghost use Rattle.top_writer.specs.declared.fault.TopReason.{TopReason};
 ghost use Rattle.top_writer.specs.Blank.{blank_sheet};
 ghost use Rattle.top_writer.specs.Files.{Stored, stored_in, data_file, index_file, mark_file};
-ghost use Rattle.top_writer.specs.Fitting.{TopFits};
+ghost use Rattle.top_writer.specs.Fitting.{IsFlushed, TopFits};
 ghost use Rattle.top_writer.specs.Loading.{IsRefused, IsShort, IsFront, IsFound};
 ghost use Rattle.top_writer.specs.Reasons.{HasParent, IsReason};
 ghost use Rattle.top_writer.specs.Showing.{ShowsTop};
@@ -56,17 +56,23 @@ impl Top {
         requires size { IsSize sectors }
         // the top that the files show, by a mark whose sequence is at most 2^61, and what a crash may leave is
         // just that; where the disk does not tell, what was read of them, with zeros as data
-        ensures shows { IfOk result (λ top. (s : Stand) × TopFits D.tells (D.state disk.new) sectors parent top s (s ∷ [])
-            × (IsTrue D.tells → (shown : ShowsTop sectors parent s (stored_in epoch (D.state disk.old).seen)) × (shown.sequence ≤ 2 ^ 61))
+        ensures shows { IfOk result (λ top. (s : Stand)
+            × TopFits D.tells (D.state disk.new) sectors parent top s (s ∷ [])
+            × (IsTrue D.tells → (shown : ShowsTop sectors parent s (stored_in epoch (D.state disk.old).seen))
+            × (shown.sequence ≤ 2 ^ 61))
             × (¬ IsTrue D.tells → s.cells ≡ blank_sheet sectors (table_of top).segments)) }
-        ensures is { IfOk result (λ top. (epoch_of top ≡ epoch) × (sectors_of top ≡ sectors) × (sequence_of top ≤ 2 ^ 61)) }
-        ensures reason { (reason : TopReason) → result ≡ Err (NoTop reason) → IsTrue D.tells → IsReason sectors parent (stored_in epoch (D.state disk.old).seen) reason }
+        ensures is { IfOk result (λ top.
+            (epoch_of top ≡ epoch) × (sectors_of top ≡ sectors) × (sequence_of top ≤ 2 ^ 61)) }
+        ensures flushed { IfOk result IsFlushed }
+        ensures reason { (reason : TopReason) → result ≡ Err (NoTop reason) → IsTrue D.tells
+            → IsReason sectors parent (stored_in epoch (D.state disk.old).seen) reason }
         // files that show a top are loaded as that top, or there is no memory, or the disk fails
-        ensures complete { (s : Stand) (shows : ShowsTop sectors parent s (stored_in epoch (D.state disk.old).seen)) → shows.sequence ≤ 2 ^ 61 → IsTrue D.tells
-            → MatchResult result (λ top. TopFits D.tells (D.state disk.new) sectors parent top s (s ∷ [])) (λ fault. (fault ≡ Memory) ⊎ (fault ≡ Failed)) }
+        ensures complete { (s : Stand) (shows : ShowsTop sectors parent s (stored_in epoch (D.state disk.old).seen))
+            → shows.sequence ≤ 2 ^ 61 → IsTrue D.tells
+            → MatchResult result (λ top. TopFits D.tells (D.state disk.new) sectors parent top s (s ∷ []))
+            (λ fault. (fault ≡ Memory) ⊎ (fault ≡ Failed)) }
         ensures quiet { Quiet (D.state disk.old) (D.state disk.new) }
-        ensures failed { IsErrOf result Failed → D.faults disk.old < D.faults disk.new }
-        ensures later { D.faults disk.old ≤ D.faults disk.new }
+        ensures cause { Charges D.faults disk.old disk.new (IsErrOf result Failed) }
     {
         let found = find(disk, epoch, sectors, parent)?;
         let table = read_table(alloc, disk, epoch, sectors, found.rows, found.filled)?;
@@ -91,11 +97,12 @@ fn find<D: Disk>(
     parent: Option<[u8; 16]>,
 ) -> Result<Found, TopFault>
     requires epoch { epoch ≤ 255 }
-    ensures found { IfOk result (λ found. IsFound D.tells (D.state disk.new) epoch sectors parent (stored_in epoch (D.state disk.old).seen) found.mark found.rows found.filled) }
-    ensures reason { IfErr result (λ fault. IsTrue D.tells → IsRefused sectors parent (stored_in epoch (D.state disk.old).seen) fault) }
+    ensures found { IfOk result (λ found. IsFound D.tells (D.state disk.new) epoch sectors parent
+        (stored_in epoch (D.state disk.old).seen) found.mark found.rows found.filled) }
+    ensures reason { IfErr result (λ fault. IsTrue D.tells
+        → IsRefused sectors parent (stored_in epoch (D.state disk.old).seen) fault) }
     ensures quiet { Quiet (D.state disk.old) (D.state disk.new) }
-    ensures failed { IsErrOf result Failed → D.faults disk.old < D.faults disk.new }
-    ensures later { D.faults disk.old ≤ D.faults disk.new }
+    ensures cause { Charges D.faults disk.old disk.new (IsErrOf result Failed) }
 {
     sync_files(disk, epoch)?;
     let bytes = read_front(disk, data_number(epoch))?;
@@ -109,10 +116,12 @@ fn find<D: Disk>(
 // After it a crash leaves of the data and of the rows what a read gives.
 fn sync_files<D: Disk>(disk: &mut D, epoch: u32) -> Result<(), DiskFailed>
     requires epoch { epoch ≤ 255 }
-    ensures bytes { OnOk result (Only ((D.state disk.old).seen (data_file epoch)) ((D.state disk.new).may_leave (data_file epoch))) }
-    ensures index { OnOk result (Only ((D.state disk.old).seen (index_file epoch)) ((D.state disk.new).may_leave (index_file epoch))) }
+    ensures bytes { OnOk result
+        (Only ((D.state disk.old).seen (data_file epoch)) ((D.state disk.new).may_leave (data_file epoch))) }
+    ensures index { OnOk result
+        (Only ((D.state disk.old).seen (index_file epoch)) ((D.state disk.new).may_leave (index_file epoch))) }
     ensures quiet { Quiet (D.state disk.old) (D.state disk.new) }
-    ensures cause { HasCause (D.faults disk.old) (D.faults disk.new) result }
+    ensures cause { Charges D.faults disk.old disk.new (IsErr result) }
 {
     disk.sync(data_number(epoch))?;
     disk.sync(index_number(epoch))?;
@@ -120,12 +129,13 @@ fn sync_files<D: Disk>(disk: &mut D, epoch: u32) -> Result<(), DiskFailed>
     Ok(())
 }
 
+// The length of a file and its first block.
 fn read_front<D: Disk>(disk: &mut D, file: u32) -> Result<Front, TopFault>
-    ensures front { IfOk result (λ front. IsTrue D.tells → IsFront ((D.state disk.old).seen file) front.len front.block) }
+    ensures front { IfOk result (λ front. IsTrue D.tells
+        → IsFront ((D.state disk.old).seen file) front.len front.block) }
     ensures short { IfErr result (IsShort D.tells ((D.state disk.old).seen file)) }
     ensures quiet { Quiet (D.state disk.old) (D.state disk.new) }
-    ensures failed { IsErrOf result Failed → D.faults disk.old < D.faults disk.new }
-    ensures later { D.faults disk.old ≤ D.faults disk.new }
+    ensures cause { Charges D.faults disk.old disk.new (IsErrOf result Failed) }
 {
     let len = disk.size(file)?;
     if len < BLOCK {
@@ -136,17 +146,19 @@ fn read_front<D: Disk>(disk: &mut D, file: u32) -> Result<Front, TopFault>
     Ok(Front { len, block })
 }
 
+// The mark of the epoch.
 fn load_mark<D: Disk>(disk: &mut D, epoch: u32) -> Result<Mark, TopFault>
     requires epoch { epoch ≤ 255 }
     ensures mark { IfOk result (λ m. (file_of m ≡ mark_file epoch) × (sequence_in m ≤ 2 ^ 61)) }
-    ensures shows { IfOk result (λ m. IsTrue D.tells → Shows (sequence_in m) (body_in m) ((D.state disk.old).seen (mark_file epoch))) }
+    ensures shows { IfOk result (λ m. IsTrue D.tells
+        → Shows (sequence_in m) (body_in m) ((D.state disk.old).seen (mark_file epoch))) }
     ensures bodies { IfOk result (λ m. (b : List ℕ) → MayHold m b → b ≡ body_in m) }
     ensures kept { IfOk result (IsKept (D.state disk.new)) }
-    ensures reason { IfErr result (λ fault. IsTrue D.tells → (n : ℕ) (parent : Option (List ℕ)) (t : Stored) → HasParent n parent t
+    ensures reason { IfErr result (λ fault. IsTrue D.tells
+        → (n : ℕ) (parent : Option (List ℕ)) (t : Stored) → HasParent n parent t
         → t.mark ≡ (D.state disk.old).seen (mark_file epoch) → IsRefused n parent t fault) }
     ensures quiet { Quiet (D.state disk.old) (D.state disk.new) }
-    ensures failed { IsErrOf result Failed → D.faults disk.old < D.faults disk.new }
-    ensures later { D.faults disk.old ≤ D.faults disk.new }
+    ensures cause { Charges D.faults disk.old disk.new (IsErrOf result Failed) }
 {
     match Mark::load(disk, mark_number(epoch)) {
         Ok(mark) => Ok(mark),

@@ -1,13 +1,13 @@
 //! Making a top.
-ghost use Rattle.std.specs.Prelude.{◌≡◌, ℕ, ◌+◌, ◌^◌, ◌<◌, ◌≤◌, List, [], ◌∷◌, Some, IsTrue, OnOk, IfOk, IsErrOf};
-ghost use Rattle.sector_extent.specs.Causes.{HasCause};
+ghost use Rattle.std.specs.Prelude.{◌≡◌, ℕ, ◌+◌, ◌^◌, ◌<◌, ◌≤◌, List, [], ◌∷◌, Some, IsTrue, OnOk, IfOk, IsErrOf, IsErr};
+ghost use Rattle.sector_extent.specs.Causes.{Charges};
 ghost use Rattle.lsmt_header.specs.declared.head.Kind.TheVariants.{TopBytes, TopRows};
-ghost use Rattle.lsmt_header.specs.Blocks.{BlockOf, IsSize, nil};
+ghost use Rattle.lsmt_header.specs.Blocks.{IsSize, nil};
 ghost use Rattle.block_disk.specs.Claims.{Run, FileRun};
 ghost use Rattle.flat_image.specs.Left.{fresh_stand};
 ghost use Rattle.top_writer.specs.declared.fault.TopMakeFault.TheVariants.{Memory, Failed};
 ghost use Rattle.top_writer.specs.Files.{data_file, index_file, mark_file, TopFiles, new_head};
-ghost use Rattle.top_writer.specs.Fitting.{TopFits};
+ghost use Rattle.top_writer.specs.Fitting.{IsFlushed, TopFits};
 ghost use Rattle.top_writer.specs.Making.{IsMade, IsNewMark};
 ghost use Rattle.top_writer.specs.View.{epoch_of, sectors_of, sequence_of};
 
@@ -32,14 +32,17 @@ impl Top {
     ) -> Result<Top, TopMakeFault>
         requires epoch { epoch ≤ 255 }
         requires size { IsSize sectors }
-        ensures fits { IfOk result (λ top. TopFits D.tells (D.state disk.new) sectors (Some parent) top (fresh_stand sectors) (fresh_stand sectors ∷ [])) }
+        ensures fits { IfOk result (λ top. TopFits D.tells (D.state disk.new) sectors (Some parent) top
+            (fresh_stand sectors) (fresh_stand sectors ∷ [])) }
         ensures is { IfOk result (λ top. (epoch_of top ≡ epoch) × (sectors_of top ≡ sectors) × (sequence_of top ≡ 1)) }
-        ensures bytes { OnOk result ((c : List ℕ) → (D.state disk.new).may_leave (data_file epoch) c → BlockOf c (new_head TopBytes sectors parent)) }
-        ensures index { OnOk result ((c : List ℕ) → (D.state disk.new).may_leave (index_file epoch) c → BlockOf c (new_head TopRows sectors nil)) }
+        ensures flushed { IfOk result IsFlushed }
+        ensures bytes { OnOk result
+            (IsMade D.tells (D.state disk.new) (data_file epoch) (new_head TopBytes sectors parent)) }
+        ensures index { OnOk result
+            (IsMade D.tells (D.state disk.new) (index_file epoch) (new_head TopRows sectors nil)) }
         ensures any_moment { Run (TopFiles epoch) (D.state disk.old) (D.state disk.new) (λ files. Unit {0}) }
         ensures memory { IsErrOf result Memory → ⊥ }
-        ensures failed { IsErrOf result Failed → D.faults disk.old < D.faults disk.new }
-        ensures later { D.faults disk.old ≤ D.faults disk.new }
+        ensures cause { Charges D.faults disk.old disk.new (IsErrOf result Failed) }
     {
         match make_files(disk, epoch, sectors, parent) {
             Ok(mark) => Ok(Top {
@@ -66,11 +69,12 @@ fn make_files<D: Disk>(
 ) -> Result<Mark, DiskFailed>
     requires epoch { epoch ≤ 255 }
     requires size { IsSize sectors }
-    ensures bytes { OnOk result (IsMade D.tells (D.state disk.new) (data_file epoch) (new_head TopBytes sectors parent)) }
+    ensures bytes { OnOk result
+        (IsMade D.tells (D.state disk.new) (data_file epoch) (new_head TopBytes sectors parent)) }
     ensures index { OnOk result (IsMade D.tells (D.state disk.new) (index_file epoch) (new_head TopRows sectors nil)) }
     ensures mark { IfOk result (λ mark. IsNewMark (D.state disk.new) (mark_file epoch) mark) }
     ensures run { Run (TopFiles epoch) (D.state disk.old) (D.state disk.new) (λ files. Unit {0}) }
-    ensures cause { HasCause (D.faults disk.old) (D.faults disk.new) result }
+    ensures cause { Charges D.faults disk.old disk.new (IsErr result) }
 {
     make_file(
         disk,
@@ -91,7 +95,7 @@ fn make_file<D: Disk>(disk: &mut D, file: u32, block: &[u8; 4096]) -> Result<(),
     ensures left { OnOk result ((c : List ℕ) → (D.state disk.new).may_leave file c → c ≡ block.now) }
     ensures seen { OnOk result (IsTrue D.tells → (D.state disk.new).seen file ≡ block.now) }
     ensures run { FileRun file (D.state disk.old) (D.state disk.new) (λ c. Unit {0}) }
-    ensures cause { HasCause (D.faults disk.old) (D.faults disk.new) result }
+    ensures cause { Charges D.faults disk.old disk.new (IsErr result) }
 {
     disk.cut(file, 0)?;
     disk.write_at(file, 0, block)?;

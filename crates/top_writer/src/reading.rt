@@ -1,7 +1,7 @@
 //! Reading a top.
-ghost use Rattle.std.specs.Prelude.{◌≡◌, ℕ, ◌+◌, ◌-◌, ◌*◌, ◌^◌, ◌<◌, ◌≤◌, List, Option, None, Some, IsTrue, IfOk, OnOk, IsErrOf, length, take, drop};
+ghost use Rattle.std.specs.Prelude.{◌≡◌, ℕ, ◌+◌, ◌-◌, ◌*◌, ◌^◌, ◌<◌, ◌≤◌, List, Option, None, Some, IsTrue, IfOk, OnOk, IsErrOf, length, take, drop, IsErr};
+ghost use Rattle.sector_extent.specs.Causes.{Charges};
 ghost use Rattle.sector_extent.specs.declared.extent.Extent.{Extent};
-ghost use Rattle.sector_extent.specs.Causes.{HasCause};
 ghost use Rattle.seg_table.specs.declared.segment.What.TheVariants as kind;
 ghost use Rattle.seg_table.specs.Cells.{cells_of};
 ghost use Rattle.seg_table.specs.Pieces.{AreCells, IsNext, end_of};
@@ -27,6 +27,7 @@ use std::sync::ledger::{Blank, Ledger};
 // Segments that are looked up at a time.
 const PIECES: usize = 64;
 
+// What stands in the place of a segment before they are looked up.
 const NOTHING: Segment = Segment {
     extent: Extent { at: 0, count: 0 },
     what: What::Zero,
@@ -37,7 +38,7 @@ fn fill<D: Disk>(disk: &mut D, file: u32, what: What, piece: &mut [u8]) -> Resul
     requires place { (place : ℕ) → what ≡ kind.Place place → 512 * place + length piece.old ≤ 2 ^ 50 }
     ensures filled { OnOk result (IsPiece D.tells ((D.state disk.old).seen file) what (length piece.new) piece.new) }
     ensures quiet { Quiet (D.state disk.old) (D.state disk.new) }
-    ensures cause { HasCause (D.faults disk.old) (D.faults disk.new) result }
+    ensures cause { Charges D.faults disk.old disk.new (IsErr result) }
 {
     match what {
         What::Zero => piece.fill(0),
@@ -60,15 +61,17 @@ impl Top {
         requires size { length out.old ≡ 512 * extent.count }
         requires within { extent.at + extent.count ≤ sectors_of self.now }
         requires fits { IsFitted D.tells (D.state disk.old) self.now }
-        ensures bytes { OnOk result (IsTrue D.tells → (n : ℕ) (parent : Option (List ℕ)) (s : Stand) (may : List Stand)
-            → TopFits D.tells (D.state disk.old) n parent self.now s may → Paints s.cells extent.at extent.count out.old out.new) }
+        ensures bytes { OnOk result (IsTrue D.tells
+            → (n : ℕ) (parent : Option (List ℕ)) (s : Stand) (may : List Stand)
+            → TopFits D.tells (D.state disk.old) n parent self.now s may
+            → Paints s.cells extent.at extent.count out.old out.new) }
         ensures gaps { OnOk result ((n : ℕ) (parent : Option (List ℕ)) (s : Stand) (may : List Stand)
-            → TopFits D.tells (D.state disk.old) n parent self.now s may → AddsGaps (IsHole s.cells) extent.at (extent.at + extent.count) gaps.old gaps.new) }
+            → TopFits D.tells (D.state disk.old) n parent self.now s may
+            → AddsGaps (IsHole s.cells) extent.at (extent.at + extent.count) gaps.old gaps.new) }
         ensures size { length out.new ≡ length out.old }
         ensures quiet { Quiet (D.state disk.old) (D.state disk.new) }
         ensures fitted { IsFitted D.tells (D.state disk.new) self.now }
-        ensures failed { IsErrOf result Failed → D.faults disk.old < D.faults disk.new }
-        ensures later { D.faults disk.old ≤ D.faults disk.new }
+        ensures cause { Charges D.faults disk.old disk.new (IsErrOf result Failed) }
     {
         self.read_all::<Brand, D>(disk, &extent, out, gaps, Blank::new(1))?;
         Ok(())
@@ -89,11 +92,12 @@ impl Top {
         requires epoch { self.now.epoch ≤ 255 }
         requires size { length out.old ≡ 512 * extent.now.count }
         requires low { AreLow (cells_of self.now.table) }
-        ensures read { OnOk result (IsRead D.tells ((D.state disk.old).seen (data_file self.now.epoch)) (cells_of self.now.table) extent.now.at (extent.now.at + extent.now.count) out.old out.new gaps.old gaps.new) }
+        ensures read { OnOk result (IsRead D.tells
+            ((D.state disk.old).seen (data_file self.now.epoch)) (cells_of self.now.table)
+            extent.now.at (extent.now.at + extent.now.count) out.old out.new gaps.old gaps.new) }
         ensures size { length out.new ≡ length out.old }
         ensures quiet { Quiet (D.state disk.old) (D.state disk.new) }
-        ensures failed { IsErrOf result Failed → D.faults disk.old < D.faults disk.new }
-        ensures later { D.faults disk.old ≤ D.faults disk.new }
+        ensures cause { Charges D.faults disk.old disk.new (IsErrOf result Failed) }
     {
         let mut steps = Steps::<L>::new(blank);
         let mut run = Stretch::gap(extent.at, extent.at);
@@ -121,11 +125,12 @@ impl Top {
         requires more { run.now.at + run.now.count < extent.now.at + extent.now.count }
         ensures pending { IfOk result (Pending (cells_of self.now.table) extent.now) }
         ensures further { IfOk result (λ r. run.now.at + run.now.count < r.at + r.count) }
-        ensures read { IfOk result (λ r. ReadsOn D.tells ((D.state disk.old).seen (data_file self.now.epoch)) (cells_of self.now.table) extent.now run.now r out.old out.new gaps.old gaps.new) }
+        ensures read { IfOk result (λ r. ReadsOn D.tells
+            ((D.state disk.old).seen (data_file self.now.epoch)) (cells_of self.now.table)
+            extent.now run.now r out.old out.new gaps.old gaps.new) }
         ensures size { length out.new ≡ length out.old }
         ensures quiet { Quiet (D.state disk.old) (D.state disk.new) }
-        ensures failed { IsErrOf result Failed → D.faults disk.old < D.faults disk.new }
-        ensures later { D.faults disk.old ≤ D.faults disk.new }
+        ensures cause { Charges D.faults disk.old disk.new (IsErrOf result Failed) }
     {
         let mut pieces = [NOTHING; PIECES];
         let from = run.end();
@@ -156,11 +161,12 @@ impl Top {
         requires within { until ≤ extent.now.at + extent.now.count }
         ensures pending { IfOk result (Pending (cells_of self.now.table) extent.now) }
         ensures end { IfOk result (λ r. r.at + r.count ≡ until) }
-        ensures read { IfOk result (λ r. ReadsOn D.tells ((D.state disk.old).seen (data_file self.now.epoch)) (cells_of self.now.table) extent.now run.now r out.old out.new gaps.old gaps.new) }
+        ensures read { IfOk result (λ r. ReadsOn D.tells
+            ((D.state disk.old).seen (data_file self.now.epoch)) (cells_of self.now.table)
+            extent.now run.now r out.old out.new gaps.old gaps.new) }
         ensures size { length out.new ≡ length out.old }
         ensures quiet { Quiet (D.state disk.old) (D.state disk.new) }
-        ensures failed { IsErrOf result Failed → D.faults disk.old < D.faults disk.new }
-        ensures later { D.faults disk.old ≤ D.faults disk.new }
+        ensures cause { Charges D.faults disk.old disk.new (IsErrOf result Failed) }
     {
         let mut run = *run;
         for piece in pieces {
@@ -189,11 +195,12 @@ impl Top {
         requires within { end_of piece.now ≤ extent.now.at + extent.now.count }
         ensures pending { IfOk result (Pending (cells_of self.now.table) extent.now) }
         ensures end { IfOk result (λ r. r.at + r.count ≡ end_of piece.now) }
-        ensures read { IfOk result (λ r. ReadsOn D.tells ((D.state disk.old).seen (data_file self.now.epoch)) (cells_of self.now.table) extent.now run.now r out.old out.new gaps.old gaps.new) }
+        ensures read { IfOk result (λ r. ReadsOn D.tells
+            ((D.state disk.old).seen (data_file self.now.epoch)) (cells_of self.now.table)
+            extent.now run.now r out.old out.new gaps.old gaps.new) }
         ensures size { length out.new ≡ length out.old }
         ensures quiet { Quiet (D.state disk.old) (D.state disk.new) }
-        ensures failed { IsErrOf result Failed → D.faults disk.old < D.faults disk.new }
-        ensures later { D.faults disk.old ≤ D.faults disk.new }
+        ensures cause { Charges D.faults disk.old disk.new (IsErrOf result Failed) }
     {
         let gap = Stretch::gap(run.end(), piece.extent.at);
         let run = self.go_on(disk, extent, run, &gap, out, gaps)?;
@@ -220,11 +227,12 @@ impl Top {
         requires says { Says (cells_of self.now.table) next.now.at next.now.count next.now.what }
         ensures pending { IfOk result (Pending (cells_of self.now.table) extent.now) }
         ensures end { IfOk result (λ r. r.at + r.count ≡ next.now.at + next.now.count) }
-        ensures read { IfOk result (λ r. ReadsOn D.tells ((D.state disk.old).seen (data_file self.now.epoch)) (cells_of self.now.table) extent.now run.now r out.old out.new gaps.old gaps.new) }
+        ensures read { IfOk result (λ r. ReadsOn D.tells
+            ((D.state disk.old).seen (data_file self.now.epoch)) (cells_of self.now.table)
+            extent.now run.now r out.old out.new gaps.old gaps.new) }
         ensures size { length out.new ≡ length out.old }
         ensures quiet { Quiet (D.state disk.old) (D.state disk.new) }
-        ensures failed { IsErrOf result Failed → D.faults disk.old < D.faults disk.new }
-        ensures later { D.faults disk.old ≤ D.faults disk.new }
+        ensures cause { Charges D.faults disk.old disk.new (IsErrOf result Failed) }
     {
         match run.joined(next) {
             Some(both) => Ok(both),
@@ -248,11 +256,12 @@ impl Top {
         requires size { length out.old ≡ 512 * extent.now.count }
         requires low { AreLow (cells_of self.now.table) }
         requires pending { Pending (cells_of self.now.table) extent.now run.now }
-        ensures read { OnOk result (ReadsTo D.tells ((D.state disk.old).seen (data_file self.now.epoch)) (cells_of self.now.table) extent.now run.now.at (run.now.at + run.now.count) out.old out.new gaps.old gaps.new) }
+        ensures read { OnOk result (ReadsTo D.tells
+            ((D.state disk.old).seen (data_file self.now.epoch)) (cells_of self.now.table)
+            extent.now run.now.at (run.now.at + run.now.count) out.old out.new gaps.old gaps.new) }
         ensures size { length out.new ≡ length out.old }
         ensures quiet { Quiet (D.state disk.old) (D.state disk.new) }
-        ensures failed { IsErrOf result Failed → D.faults disk.old < D.faults disk.new }
-        ensures later { D.faults disk.old ≤ D.faults disk.new }
+        ensures cause { Charges D.faults disk.old disk.new (IsErrOf result Failed) }
     {
         if run.count == 0 {
             return Ok(());
@@ -278,10 +287,11 @@ impl Top {
         requires to { 512 * (run.now.at - extent.now.at) + 512 * run.now.count ≤ length out.old }
         requires low { (place : ℕ) → what ≡ kind.Place place → place + run.now.count ≤ 2 ^ 31 }
         requires image { run.now.at + run.now.count ≤ 2 ^ 31 }
-        ensures filled { OnOk result (FillsStretch D.tells ((D.state disk.old).seen (data_file self.now.epoch)) what (run.now.at - extent.now.at) run.now.count out.old out.new) }
+        ensures filled { OnOk result (FillsStretch D.tells ((D.state disk.old).seen (data_file self.now.epoch))
+            what (run.now.at - extent.now.at) run.now.count out.old out.new) }
         ensures size { length out.new ≡ length out.old }
         ensures quiet { Quiet (D.state disk.old) (D.state disk.new) }
-        ensures cause { HasCause (D.faults disk.old) (D.faults disk.new) result }
+        ensures cause { Charges D.faults disk.old disk.new (IsErr result) }
     {
         let (_, rest) = out.split_at_mut((run.at - extent.at) as usize * SECTOR);
         let (piece, _) = rest.split_at_mut(run.count as usize * SECTOR);

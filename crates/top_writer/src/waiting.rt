@@ -36,7 +36,8 @@ fn row_of(extent: &Extent, what: What, number: u64) -> Row
 fn push_row(waiting: &mut Vec<u8>, row: &Row)
     requires room { vec_len waiting.old + 16 ≤ vec_capacity waiting.old }
     requires fits { mapping.Fits row.now }
-    ensures added { (bytes : List ℕ) × RowOf bytes row.now × (length bytes ≡ 16) × (waiting.new.items ≡ waiting.old.items ++ bytes) }
+    ensures added { (bytes : List ℕ) × RowOf bytes row.now × (length bytes ≡ 16)
+        × (waiting.new.items ≡ waiting.old.items ++ bytes) }
     ensures len { vec_len waiting.new ≡ vec_len waiting.old + 16 }
     ensures capacity { vec_capacity waiting.old ≤ vec_capacity waiting.new }
 {
@@ -52,7 +53,8 @@ pub(crate) fn push_rows(waiting: &mut Vec<u8>, extent: &Extent, what: What)
     requires room { vec_len waiting.old + 16 * rows_for extent.now.count ≤ vec_capacity waiting.old }
     requires fits { put.Fits what extent.now.count }
     ensures added { (added : List ℕ) × (waiting.new.items ≡ waiting.old.items ++ added)
-        × AreSpelled added 0 (rows_of extent.now.at extent.now.count what) × (length added ≡ 16 * rows_for extent.now.count) }
+        × AreSpelled added 0 (rows_of extent.now.at extent.now.count what)
+        × (length added ≡ 16 * rows_for extent.now.count) }
 {
     for number in 0..rows_needed(extent.count as u64) {
         push_row(waiting, &row_of(extent, what, number));

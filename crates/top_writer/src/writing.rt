@@ -1,6 +1,6 @@
 //! Writes and zeros.
-ghost use Rattle.std.specs.Prelude.{◌≡◌, ℕ, ◌+◌, ◌*◌, ◌^◌, ◌<◌, ◌≤◌, ◌↔◌, List, Err, IsTrue, OnOk, OnErr, IfErr, IsErrOf, length, vec_len, vec_capacity};
-ghost use Rattle.sector_extent.specs.Causes.{HasCause};
+ghost use Rattle.std.specs.Prelude.{◌≡◌, ℕ, ◌+◌, ◌*◌, ◌^◌, ◌<◌, ◌≤◌, ◌↔◌, List, Err, IsTrue, OnOk, OnErr, IfErr, IsErrOf, length, vec_len, vec_capacity, IsErr};
+ghost use Rattle.sector_extent.specs.Causes.{Charges};
 ghost use Rattle.sector_extent.specs.Rows.{rows_for};
 ghost use Rattle.seg_table.specs.Put.{Fits};
 ghost use Rattle.block_disk.specs.Changes.{put, Torn};
@@ -42,18 +42,20 @@ impl Top {
         requires size { length bytes.now ≡ 512 * extent.count }
         requires within { extent.at + extent.count ≤ sectors_of self.old }
         requires fits { IsFitted D.tells (D.state disk.old) self.old }
-        ensures ok { OnOk result (TopGoes D.tells (D.state disk.old) (D.state disk.new) self.old self.new (with_write extent.at bytes.now) as_before) }
-        ensures err { OnErr result (TopGoes D.tells (D.state disk.old) (D.state disk.new) self.old self.new unchanged as_before) }
+        ensures ok { OnOk result (TopGoes D.tells (D.state disk.old) (D.state disk.new) self.old self.new
+            (with_write extent.at bytes.now) as_before) }
+        ensures err { OnErr result
+            (TopGoes D.tells (D.state disk.old) (D.state disk.new) self.old self.new unchanged as_before) }
         ensures full { IsOver (rows_used self.old + rows_for extent.count) (sectors_used self.old + extent.count)
             ↔ (result ≡ Err (Full (rows_used self.old) (sectors_used self.old))) }
-        ensures only { (rows sectors : ℕ) → result ≡ Err (Full rows sectors) → (rows ≡ rows_used self.old) × (sectors ≡ sectors_used self.old) }
+        ensures only { (rows sectors : ℕ) → result ≡ Err (Full rows sectors)
+            → (rows ≡ rows_used self.old) × (sectors ≡ sectors_used self.old) }
         ensures fitted { IsFitted D.tells (D.state disk.new) self.new }
         ensures mark { (view_of self.new).mark ≡ (view_of self.old).mark }
         ensures same { OnErr result (view_of self.new ≡ view_of self.old) }
         // a refusal that is not the disk's comes before the disk is called
         ensures spared { OnErr result (¬ IsErrOf result Failed → disk.new ≡ disk.old) }
-        ensures failed { IsErrOf result Failed → D.faults disk.old < D.faults disk.new }
-        ensures later { D.faults disk.old ≤ D.faults disk.new }
+        ensures cause { Charges D.faults disk.old disk.new (IsErrOf result Failed) }
     {
         let rows = rows_needed(extent.count as u64);
         self.check_room(rows, extent.count as u64)?;
@@ -76,7 +78,8 @@ impl Top {
         ensures err { OnErr result (view_of self.new ≡ view_of self.old) }
         ensures full { IsOver (rows_used self.old + rows_for extent.count) (sectors_used self.old)
             ↔ (result ≡ Err (Full (rows_used self.old) (sectors_used self.old))) }
-        ensures only { (rows sectors : ℕ) → result ≡ Err (Full rows sectors) → (rows ≡ rows_used self.old) × (sectors ≡ sectors_used self.old) }
+        ensures only { (rows sectors : ℕ) → result ≡ Err (Full rows sectors)
+            → (rows ≡ rows_used self.old) × (sectors ≡ sectors_used self.old) }
         ensures failed { IsErrOf result Failed → ⊥ }
     {
         let rows = rows_needed(extent.count as u64);
@@ -123,9 +126,11 @@ impl Top {
     fn append<D: Disk>(&self, disk: &mut D, bytes: &[u8]) -> Result<(), DiskFailed>
         requires epoch { self.now.epoch ≤ 255 }
         requires place { 4096 + 512 * self.now.filled + length bytes.now ≤ 2 ^ 50 }
-        ensures written { OnOk result (IsTrue D.tells → (D.state disk.new).seen (data_file self.now.epoch) ≡ put ((D.state disk.old).seen (data_file self.now.epoch)) (4096 + 512 * self.now.filled) bytes.now) }
-        ensures steps { Steps (data_file self.now.epoch) (Torn (4096 + 512 * self.now.filled) (length bytes.now)) (D.state disk.old) (D.state disk.new) }
-        ensures cause { HasCause (D.faults disk.old) (D.faults disk.new) result }
+        ensures written { OnOk result (IsTrue D.tells → (D.state disk.new).seen (data_file self.now.epoch)
+            ≡ put ((D.state disk.old).seen (data_file self.now.epoch)) (4096 + 512 * self.now.filled) bytes.now) }
+        ensures steps { Steps (data_file self.now.epoch)
+            (Torn (4096 + 512 * self.now.filled) (length bytes.now)) (D.state disk.old) (D.state disk.new) }
+        ensures cause { Charges D.faults disk.old disk.new (IsErr result) }
     {
         let end = BLOCK + SECTOR as u64 * self.filled;
         disk.write_at(data_number(self.epoch), end, bytes)?;

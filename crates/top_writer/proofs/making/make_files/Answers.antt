@@ -1,6 +1,6 @@
 use Rattle.std.proofs.Common.{refl, inl, inr}
 use Rattle.top_writer.specs.Files.{data_file, index_file, mark_file}
-use Rattle.top_writer.proofs.MakeGoes.{any_wide, any_then, new_mark}
+use Rattle.top_writer.proofs.MakeGoes.{any_wide, any_then, mark_made}
 use Rattle.top_writer.proofs.making.make_files.Goals as goal
 
 pub returns-in_err-make_file-clause-run : goal.returns-in_err-make_file-clause-run
@@ -26,8 +26,8 @@ returns-in_err-mark-clause-run g c =
 
 pub returns-clause-mark : goal.returns-clause-mark
 returns-clause-mark g c =
-    new_mark (g.D.Disk.state c.format.new.disk) (mark_file c.args.epoch) c.mark_number.result c.in_ok-mark.mark c.body_of.result c.mark_number.ensures
-    (c.in_ok-mark.ensures.mark.0, c.in_ok-mark.ensures.mark.1) c.in_ok-mark.ensures.bodies c.in_ok-mark.ensures.kept c.body_of.ensures.rows c.body_of.ensures.sectors
+    mark_made (g.D.Disk.state c.format.new.disk) (mark_file c.args.epoch) c.mark_number.result c.in_ok-mark.mark c.body_of.result c.mark_number.ensures
+    c.in_ok-mark.ensures.mark c.in_ok-mark.ensures.bodies c.in_ok-mark.ensures.kept c.body_of.ensures.rows c.body_of.ensures.sectors
 
 pub returns-clause-run : goal.returns-clause-run
 returns-clause-run g c =

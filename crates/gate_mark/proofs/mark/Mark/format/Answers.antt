@@ -1,4 +1,4 @@
-use Rattle.std.proofs.Common.{◌≡◌, length, rules, inl, inr}
+use Rattle.std.proofs.Common.{◌≡◌, length, rules, inl, inr, refl}
 use Rattle.std.specs.Prelude.{replicate}
 use Rattle.std.specs.Int.{to_le_bytes, w64}
 use Rattle.block_disk.specs.Changes.{put}
@@ -6,6 +6,7 @@ use Rattle.gate_mark.specs.declared.mark.Rest.TheVariants.{Closed}
 use Rattle.gate_mark.specs.declared.mark.Slot.TheVariants.{First}
 use Rattle.gate_mark.specs.Shown.{shown}
 use Rattle.gate_mark.specs.Through.{IsTorn}
+use Rattle.gate_mark.proofs.NewFile.{format_leaves}
 use Rattle.gate_mark.proofs.Runs.{any_run, any_joined, format_done}
 use Rattle.gate_mark.proofs.SlotWrites.{attempt_bytes_hold}
 use Rattle.gate_mark.proofs.mark.Mark.format.Goals as goal
@@ -46,3 +47,20 @@ returns-clause-now g c = λ file left.
     (g.D.Disk.state c.clear.new.disk) (g.D.Disk.state c.write_through.new.disk) (g.D.Disk.state c.write_through-2.new.disk)
     c.in_ok-clear.ensures.empty c.in_ok-write_through.ensures.done c.in_ok-write_through-2.ensures.done c.closed_slots.ensures (attempt_bytes_hold 1 c.args.body.now len) file left in
     elim (shown First 1 c.args.body.now Closed file fits) [ inl shows ↦ shows | inr none ↦ absurd none ]
+
+pub returns-clause-left : goal.returns-clause-left
+returns-clause-left g c =
+    let len : length c.args.body.now ≡ 48 = search rules in
+    let bytes = put (put (replicate 56 0) 0 (to_le_bytes w64 1)) 8 c.args.body.now in
+    format_leaves c.args.file c.args.body.now bytes c.closed_slots.result
+    (g.D.Disk.state c.clear.new.disk) (g.D.Disk.state c.write_through.new.disk) (g.D.Disk.state c.write_through-2.new.disk)
+    c.in_ok-clear.ensures.empty c.in_ok-write_through.ensures.done c.in_ok-write_through-2.ensures.done c.closed_slots.ensures len (attempt_bytes_hold 1 c.args.body.now len).len refl
+
+pub returns-clause-seen : goal.returns-clause-seen
+returns-clause-seen g c = λ told.
+    let len : length c.args.body.now ≡ 48 = search rules in
+    let bytes = put (put (replicate 56 0) 0 (to_le_bytes w64 1)) 8 c.args.body.now in
+    format_leaves c.args.file c.args.body.now bytes c.closed_slots.result
+    (g.D.Disk.state c.clear.new.disk) (g.D.Disk.state c.write_through.new.disk) (g.D.Disk.state c.write_through-2.new.disk)
+    c.in_ok-clear.ensures.empty c.in_ok-write_through.ensures.done c.in_ok-write_through-2.ensures.done c.closed_slots.ensures len (attempt_bytes_hold 1 c.args.body.now len).len refl
+    ((g.D.Disk.state c.write_through-2.new.disk).seen c.args.file) (g.met.D.Disk.seen_may_stay c.write_through-2.new.disk c.args.file told)

@@ -2,8 +2,12 @@ use Rattle.top_writer.specs.Stands.{unchanged, as_before, just_this, this_too}
 use Rattle.top_writer.specs.View.{view_of}
 use Rattle.top_writer.proofs.WriteGoes.{fitted_goes}
 use Rattle.top_writer.proofs.Exits.{on_err}
-use Rattle.top_writer.proofs.FlushGoes.{goes_attempted, goes_flushed, goes_this_too, stored_mark}
+use Rattle.top_writer.proofs.FlushGoes.{goes_attempted, goes_flushed, goes_still, goes_this_too, stored_mark}
 use Rattle.top_writer.proofs.top.Top.flush.Goals as goal
+
+pub returns-then-is_flushed-clause-ok : goal.returns-then-is_flushed-clause-ok
+returns-then-is_flushed-clause-ok g c =
+    goes_still g.D.Disk.tells (g.D.Disk.state c.args.disk.now) c.args.self.now (g.met.D.Disk.now_at c.args.disk.now) (c.is_flushed.ensures.0 c.if-is_flushed.true)
 
 pub returns-in_err-store-clause-err : goal.returns-in_err-store-clause-err
 returns-in_err-store-clause-err g c =

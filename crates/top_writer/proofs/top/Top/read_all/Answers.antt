@@ -1,4 +1,6 @@
-use Rattle.std.proofs.Common.{arith}
+use Rattle.std.proofs.Common.{◌∙◌}
+use Rattle.top_writer.specs.declared.fault.ReadFault.TheVariants.{Failed}
+use Rattle.sector_extent.specs.CauseLaws.{calm_value}
 use Rattle.seg_table.specs.Cells.{cells_of}
 use Rattle.top_writer.specs.Files.{data_file}
 use Rattle.top_writer.proofs.ReadLaws.{quiet_on, read_then}
@@ -15,7 +17,7 @@ loop-disk-preserved g c = (
       c.loop-disk.run.at c.in_ok-run.run'.at c.args.out.now c.loop-disk.out c.read_on.new.out c.args.gaps.now c.loop-disk.gaps c.read_on.new.gaps
       c.loop-disk.invariant.2 c.loop-disk.invariant.1 c.in_ok-run.ensures.read,
   quiet_on (g.D.Disk.state c.args.disk.now) (g.D.Disk.state c.loop-disk.disk) (g.D.Disk.state c.read_on.new.disk) c.loop-disk.invariant.2 c.read_on.ensures.quiet,
-  omega (arith, c.loop-disk.invariant.3, c.read_on.ensures.later),
+  calm_value g.D.Disk.faults c.loop-disk.disk c.read_on.new.disk c.in_ok-run.run' Failed c.in_ok-run.ensures.cause ∙ c.loop-disk.invariant.3,
 )
 
 pub returns-in_err-finish-clause-quiet : goal.returns-in_err-finish-clause-quiet

@@ -1,4 +1,6 @@
-use Rattle.std.proofs.Common.{ℕ, ◌+◌, drop, sym, subst, arith}
+use Rattle.std.proofs.Common.{◌∙◌, ℕ, ◌+◌, drop, sym, subst, arith}
+use Rattle.top_writer.specs.declared.fault.ReadFault.TheVariants.{Failed}
+use Rattle.sector_extent.specs.CauseLaws.{calm_value}
 use Rattle.seg_table.specs.Cells.{cells_of}
 use Rattle.seg_table.specs.Pieces.{AreCells}
 use Rattle.top_writer.specs.Files.{data_file}
@@ -27,7 +29,7 @@ loop-piece-preserved g c =
           c.args.run.now.at c.loop-piece.run.at c.in_ok-run.run'.at c.args.out.now c.loop-piece.out c.read_piece.new.out c.args.gaps.now c.loop-piece.gaps c.read_piece.new.gaps
           c.loop-piece.invariant.3 c.loop-piece.invariant.2 c.in_ok-run.ensures.read,
       quiet_on (g.D.Disk.state c.args.disk.now) (g.D.Disk.state c.loop-piece.disk) (g.D.Disk.state c.read_piece.new.disk) c.loop-piece.invariant.3 c.read_piece.ensures.quiet,
-      omega (arith, c.loop-piece.invariant.4, c.read_piece.ensures.later),
+      calm_value g.D.Disk.faults c.loop-piece.disk c.read_piece.new.disk c.in_ok-run.run' Failed c.in_ok-run.ensures.cause ∙ c.loop-piece.invariant.4,
     )
 
 pub returns-in_err-run-2-clause-quiet : goal.returns-in_err-run-2-clause-quiet

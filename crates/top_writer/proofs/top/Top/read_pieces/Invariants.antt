@@ -1,4 +1,4 @@
-use Rattle.std.proofs.Common.{◌+◌, ◌≤◌, drop}
+use Rattle.std.proofs.Common.{◌≡◌, ◌+◌, drop}
 use Rattle.seg_table.specs.Cells.{cells_of}
 use Rattle.seg_table.specs.Pieces.{AreCells}
 use Rattle.block_disk.specs.Claims.{Quiet}
@@ -12,4 +12,4 @@ invariant-loop-piece g l =
     × AreCells (cells_of l.self.table) (l.run.at + l.run.count) l.until (drop l.piece-index l.pieces)
     × ReadsOn g.D.Disk.tells ((g.D.Disk.state l.fn.disk).seen (data_file l.self.epoch)) (cells_of l.self.table) l.extent l.fn.run l.run l.fn.out l.out l.fn.gaps l.gaps
     × Quiet (g.D.Disk.state l.fn.disk) (g.D.Disk.state l.disk)
-    × (g.D.Disk.faults l.fn.disk ≤ g.D.Disk.faults l.disk)
+    × (g.D.Disk.faults l.disk ≡ g.D.Disk.faults l.fn.disk)
