@@ -122,9 +122,9 @@ module _ {V A : Type 0} where
   pub given_place : (z z' : TableId) (m m2 m3 : Pass V A) (x : V) → z' ≡ z → m2 ≡ (m.0, (0, Some x) ∷ []) → given m2 m3 → place_of z' m3 ≡ place z (m.0.tag - 1) m.0.seen false
   given_place z z' m m2 m3 x same put after = λ i. place_of (same i) (given_view m m2 m3 x put after i)
 
-  -- what a note told, once it was joined and the pass has looked
-  pub told : (from note to m1 m2 : Pass V A) (first found : ℕ) → note ≡ (note_of from.0, []) → m1 ≡ (joined to.0 note.0, to.1) → Looked first m1 found m2 → StartsWith m2.0.seen from.0.seen
-  told from note to m1 m2 first found made join l =
+  -- what a note had seen, once it was joined and the pass has looked
+  pub met : (from note to m1 m2 : Pass V A) (first found : ℕ) → note ≡ (note_of from.0, []) → m1 ≡ (joined to.0 note.0, to.1) → Looked first m1 found m2 → StartsWith m2.0.seen from.0.seen
+  met from note to m1 m2 first found made join l =
       let lists = subst (λ (y : Pass V A). All (λ k. Continues l.log k.tag k.seen) y.0.kept) join l.sees.lists in
       let begun : StartsWith l.log note.0.seen = (lists 0 (list_of note.0) (omega arith)).begun in
       subst (λ (y : List (Entry A)). StartsWith y from.0.seen) (sym (ap (λ (y : Pass V A). y.0.seen) l.after)) (subst (λ (y : Pass V A). StartsWith l.log y.0.seen) made begun)

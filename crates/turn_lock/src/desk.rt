@@ -77,7 +77,8 @@ impl<V: Stands> Desk<V> {
     ) -> Result<(Desk<V>, Pass<V>), (V, Memory)>
         requires first { about.now.first ≤ 2 ^ 62 }
         requires stands { V.stands value about.now.base.value about.now.first [] }
-        ensures ok { IfOk result (λ made. (made.0.table.shared.key ≡ about.now) × (made.1.table_id ≡ made.0.table.shared.table_id) × (made.1.me ≡ (opener, []))) }
+        ensures ok { IfOk result (λ made. (made.0.table.shared.key ≡ about.now)
+            × (made.1.table_id ≡ made.0.table.shared.table_id) × (made.1.me ≡ (opener, []))) }
         ensures err { IfErr result (λ back. back.0 ≡ value) }
     {
         let slots = match one_slot(alloc, value) {
@@ -109,7 +110,8 @@ impl<V: Stands> Desk<V> {
 
     /// Joins a pass into another, which keeps what it had seen.
     pub(crate) fn join(&self, pass: &mut Pass<V>, other: Pass<V>)
-        requires lock { (pass.old.table_id ≡ self.now.table.shared.table_id) × (other.table_id ≡ self.now.table.shared.table_id) }
+        requires lock { (pass.old.table_id ≡ self.now.table.shared.table_id)
+            × (other.table_id ≡ self.now.table.shared.table_id) }
         requires idle { (other.me.0.holds ≡ 0) × (other.me.1 ≡ []) }
         ensures lock { pass.new.table_id ≡ pass.old.table_id }
         ensures joined { pass.new.me ≡ (joined pass.old.me.0 other.me.0, pass.old.me.1) }
@@ -119,13 +121,15 @@ impl<V: Stands> Desk<V> {
 
     /// Lets `to` see what `from` has seen.
     pub(crate) fn meet(&self, from: &mut Pass<V>, to: &mut Pass<V>)
-        requires lock { (from.old.table_id ≡ self.now.table.shared.table_id) × (to.old.table_id ≡ self.now.table.shared.table_id) }
+        requires lock { (from.old.table_id ≡ self.now.table.shared.table_id)
+            × (to.old.table_id ≡ self.now.table.shared.table_id) }
         requires seat { IsSeat from.old.me × IsSeat to.old.me }
         ensures from { (from.new.table_id ≡ from.old.table_id) × (from.new.me ≡ from.old.me) }
         ensures seat { IsSeat to.new.me }
         ensures later { IsLater (place_of to.old.table_id to.old.me) (place_of to.new.table_id to.new.me) }
         ensures turn { to.new.me.0.holds ≡ to.old.me.0.holds }
-        ensures told { StartsWith to.new.me.0.seen from.old.me.0.seen }
+        ensures seen { StartsWith to.new.me.0.seen from.old.me.0.seen }
+        ensures room { self.now.table.shared.key.first + length to.new.me.0.seen ≤ 2 ^ 62 }
     {
         let note = self.table.shared.split_seat::<Tell>(from);
         self.join(to, note);
@@ -147,7 +151,8 @@ impl<V: Stands> Desk<V> {
         requires free { (found < 2 ^ 63) × (found % 2 ≡ 0) }
         requires numbered { 0 < pass.old.me.0.tag }
         ensures same { pass.new.table_id ≡ pass.old.table_id }
-        ensures claimed { Claimed V.stands self.now.table.shared.key.base.value self.now.table.shared.key.first found pass.old.me result pass.new.me }
+        ensures claimed { let key = self.now.table.shared.key in
+            Claimed V.stands key.base.value key.first found pass.old.me result pass.new.me }
     {
         self.table
             .shared
@@ -186,8 +191,10 @@ impl<V: Stands> Desk<V> {
         ensures lock { pass.new.table_id ≡ pass.old.table_id }
         ensures seat { IsSeat pass.new.me }
         ensures later { IsLater (place_of pass.old.table_id pass.old.me) (place_of pass.new.table_id pass.new.me) }
-        ensures ok { IfOk result (λ value. HasTurn V.stands self.now.table.shared.key.base.value self.now.table.shared.key.first value pass.new.me) }
-        ensures err { IfErr result (λ word. (pass.new.me.0.holds ≡ 0) × IsWord self.now.table.shared.key.first pass.new.me.0.seen word) }
+        ensures ok { let key = self.now.table.shared.key in
+            IfOk result (λ value. HasTurn V.stands key.base.value key.first value pass.new.me) }
+        ensures err { IfErr result (λ word. (pass.new.me.0.holds ≡ 0)
+            × IsWord self.now.table.shared.key.first pass.new.me.0.seen word) }
     {
         if found % 2 == 1 {
             self.wait(rt, found);
@@ -208,8 +215,10 @@ impl<V: Stands> Desk<V> {
         ensures lock { pass.new.table_id ≡ pass.old.table_id }
         ensures seat { IsSeat pass.new.me }
         ensures later { IsLater (place_of pass.old.table_id pass.old.me) (place_of pass.new.table_id pass.new.me) }
-        ensures ok { IfOk result (λ value. HasTurn V.stands self.now.table.shared.key.base.value self.now.table.shared.key.first value pass.new.me) }
-        ensures err { IfErr result (λ _. (pass.new.me.0.holds ≡ 0) × (self.now.table.shared.key.first + length pass.new.me.0.seen ≡ 2 ^ 62)) }
+        ensures ok { let key = self.now.table.shared.key in
+            IfOk result (λ value. HasTurn V.stands key.base.value key.first value pass.new.me) }
+        ensures err { IfErr result (λ _. (pass.new.me.0.holds ≡ 0)
+            × (self.now.table.shared.key.first + length pass.new.me.0.seen ≡ 2 ^ 62)) }
     {
         let mut found = self.look(pass);
         for _ in rt.forever() {
@@ -229,9 +238,12 @@ impl<V: Stands> Desk<V> {
     pub(crate) fn note<N: Named<V::Act>>(&self, pass: &mut Pass<V>, value: V)
         requires lock { pass.old.table_id ≡ self.now.table.shared.table_id }
         requires seat { IsSeat pass.old.me × (pass.old.me.0.holds ≡ 1) }
-        requires stands { V.stands value self.now.table.shared.key.base.value self.now.table.shared.key.first (pass.old.me.0.seen ++ entry (pass.old.me.0.tag - 1) N.it ∷ []) }
+        requires stands { let key = self.now.table.shared.key in
+            V.stands value key.base.value key.first
+            (pass.old.me.0.seen ++ entry (pass.old.me.0.tag - 1) N.it ∷ []) }
         ensures seat { IsSeat pass.new.me }
-        ensures noted { place_of pass.new.table_id pass.new.me ≡ place pass.old.table_id (pass.old.me.0.tag - 1) (pass.old.me.0.seen ++ entry (pass.old.me.0.tag - 1) N.it ∷ []) false }
+        ensures noted { let number = pass.old.me.0.tag - 1 in place_of pass.new.table_id pass.new.me
+            ≡ place pass.old.table_id number (pass.old.me.0.seen ++ entry number N.it ∷ []) false }
     {
         self.table.shared.load::<Name<N>>(pass, 0);
         self.put(pass, value);
@@ -243,9 +255,11 @@ impl<V: Stands> Desk<V> {
     pub(crate) fn give(&self, pass: &mut Pass<V>, value: V)
         requires lock { pass.old.table_id ≡ self.now.table.shared.table_id }
         requires seat { IsSeat pass.old.me × (pass.old.me.0.holds ≡ 1) }
-        requires stands { V.stands value self.now.table.shared.key.base.value self.now.table.shared.key.first pass.old.me.0.seen }
+        requires stands { let key = self.now.table.shared.key in
+            V.stands value key.base.value key.first pass.old.me.0.seen }
         ensures seat { IsSeat pass.new.me }
-        ensures given { place_of pass.new.table_id pass.new.me ≡ place pass.old.table_id (pass.old.me.0.tag - 1) pass.old.me.0.seen false }
+        ensures given { place_of pass.new.table_id pass.new.me
+            ≡ place pass.old.table_id (pass.old.me.0.tag - 1) pass.old.me.0.seen false }
     {
         self.put(pass, value);
         self.table.shared.fetch_sub::<Give>(pass, 0, 1);
@@ -276,8 +290,10 @@ impl<V: Stands> Desk<V> {
     pub(crate) fn shut(self, pass: Pass<V>) -> V
         requires lock { pass.table_id ≡ self.table.shared.table_id }
         requires idle { pass.me.0.holds ≡ 0 }
-        requires all { (k : ℕ) → k < self.table.shared.key.seats → (seen : List (Entry V.Act)) × Has pass.me.0 k seen }
-        ensures { Ends V.stands self.table.shared.key.base.value self.table.shared.key.first self.table.shared.key.seats result pass.me.0 }
+        requires all { (k : ℕ) → k < self.table.shared.key.seats
+            → (seen : List (Entry V.Act)) × Has pass.me.0 k seen }
+        ensures { let key = self.table.shared.key in
+            Ends V.stands key.base.value key.first key.seats result pass.me.0 }
     {
         let Desk { table, waiting } = self;
         waiting.into_inner();

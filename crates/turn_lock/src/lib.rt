@@ -12,7 +12,7 @@ mod tests;
 mod turn;
 mod worn;
 
-pub use said::Said;
+pub use said::{Property, Said};
 pub use seat::{Held, Seat, SeatList};
 pub use turn::Turn;
 pub use worn::Worn;

@@ -2,7 +2,7 @@
 ghost use Rattle.std.specs.Prelude.{◌≡◌, ◌^◌, ◌<◌, ◌≤◌, false, length, IfOk};
 ghost use Rattle.turn_lock.specs.Locks.{AreSeats};
 
-use crate::{Seat, SeatList, Turn, Worn};
+use crate::{Property, Said, Seat, SeatList, Turn, Worn};
 use flat_image::{Named, Stands};
 use sector_extent::ListOf;
 use std::alloc::Global;
@@ -12,12 +12,12 @@ use std::test::Fail;
 use std::thread;
 use std::thread::Threads;
 
-/// The act that added a number.
+// The act that added a number.
 struct Added {
     number: u64,
 }
 
-/// There were no numbers.
+// There were no numbers.
 struct Empty;
 
 #[derive(Drop)]
@@ -41,6 +41,22 @@ impl Named<Added> for Brand {
 
 impl Named<Empty> for Brand {
     ghost it = { record {} };
+}
+
+// The act that added as many as there are numbers.
+struct Counted;
+
+impl Property<Numbers, Added> for Counted {
+    ghost use Rattle.std.specs.Prelude.{◌≡◌, length};
+
+    ghost holds = { λ numbers added. added.number ≡ length numbers.list.items };
+}
+
+// An act that only exists.
+fn an_act_that_is_said(numbers: &Numbers) -> Said<Added>
+    ensures { result.value.number ≡ length numbers.now.list.items }
+{
+    Said::such::<Numbers, Counted>(numbers)
 }
 
 // Adds a number, in one turn. False where memory is wanting.
@@ -134,6 +150,7 @@ fn added_by<R: Threads + Wait + Sync>(
     let mut list = list.into_vec();
     add_by_each(rt, &lock, list.as_mut_slice(), each);
     let numbers = lock.close(ListOf::from_vec(list));
+    drop(an_act_that_is_said(&numbers));
     Ok(numbers.list.len())
 }
 
@@ -172,8 +189,8 @@ fn a_lock_wears_out(rt: HostRuntime) -> Result<(), Fail> {
     Ok(())
 }
 
-// How many numbers a seat finds, which another has told of an addition.
-fn told<R: Wait>(
+// How many numbers a seat finds that met another, which had added one.
+fn found_behind<R: Wait>(
     rt: &R,
     lock: &Turn<Numbers>,
     mut from: Seat<Numbers>,
@@ -204,6 +221,6 @@ fn seats_meet(rt: HostRuntime) -> Result<(), Fail> {
     let Some(from) = list.pop() else {
         return Err("a seat")?;
     };
-    assert_eq!(rt; told(&rt, &lock, from, to)?, 1);
+    assert_eq!(rt; found_behind(&rt, &lock, from, to)?, 1);
     Ok(())
 }

@@ -30,7 +30,12 @@ impl<V: Stands> Model for Turn<V> {
 
     ghost Value = { Lock V.Base };
 
-    ghost view = { λ t. record { id = t.desk.table.shared.table_id; base = t.desk.table.shared.key.base.value; first = t.desk.table.shared.key.first; seats = t.desk.table.shared.key.seats } };
+    ghost view = { λ t. let shared = t.desk.table.shared in record {
+      id = shared.table_id;
+      base = shared.key.base.value;
+      first = shared.key.first;
+      seats = shared.key.seats;
+    } };
 
     ghost invariant = { λ t. 0 < t.desk.table.shared.key.seats };
 }
@@ -47,7 +52,8 @@ impl<V: Stands> Turn<V> {
         requires seats { 0 < seats }
         requires first { first ≤ 2 ^ 62 }
         requires stands { V.stands value N.it first [] }
-        ensures lock { IfOk result (λ made. (made.0.base ≡ N.it) × (made.0.first ≡ first) × (made.0.seats ≡ seats)) }
+        ensures lock { IfOk result (λ made. (made.0.base ≡ N.it) × (made.0.first ≡ first)
+            × (made.0.seats ≡ seats)) }
         ensures seats { IfOk result (λ made. AreSeats made.0.id seats made.1 × All (λ s. s.seen ≡ []) made.1) }
         ensures err { IfErr result (λ back. back.0 ≡ value) }
     {
@@ -70,8 +76,11 @@ impl<V: Stands> Turn<V> {
         requires lock { seat.old.lock ≡ self.now.id }
         requires idle { seat.old.holds ≡ false }
         ensures later { IsLater seat.old seat.new }
-        ensures ok { IfOk result (λ held. (seat.new.holds ≡ true) × V.stands held.value self.now.base self.now.first seat.new.seen × (self.now.first + length seat.new.seen < 2 ^ 62)) }
-        ensures worn { IfErr result (λ _. (seat.new.holds ≡ false) × (self.now.first + length seat.new.seen ≡ 2 ^ 62)) }
+        ensures ok { IfOk result (λ held. (seat.new.holds ≡ true)
+            × V.stands held.value self.now.base self.now.first seat.new.seen
+            × (self.now.first + length seat.new.seen < 2 ^ 62)) }
+        ensures worn { IfErr result (λ _. (seat.new.holds ≡ false)
+            × (self.now.first + length seat.new.seen ≡ 2 ^ 62)) }
     {
         let value = self.desk.hold(rt, &mut seat.pass)?;
         Ok(Held { value })
@@ -81,8 +90,10 @@ impl<V: Stands> Turn<V> {
     pub fn note<N: Named<V::Act>>(&self, seat: &mut Seat<V>, held: Held<V>)
         requires lock { seat.old.lock ≡ self.now.id }
         requires turn { seat.old.holds ≡ true }
-        requires stands { V.stands held.value self.now.base self.now.first (seat.old.seen ++ entry seat.old.number N.it ∷ []) }
-        ensures { seat.new ≡ place seat.old.lock seat.old.number (seat.old.seen ++ entry seat.old.number N.it ∷ []) false }
+        requires stands { let history = seat.old.seen ++ entry seat.old.number N.it ∷ [] in
+            V.stands held.value self.now.base self.now.first history }
+        ensures { let history = seat.old.seen ++ entry seat.old.number N.it ∷ [] in
+            seat.new ≡ place seat.old.lock seat.old.number history false }
     {
         let Held { value } = held;
         self.desk.note::<N>(&mut seat.pass, value);
@@ -105,7 +116,8 @@ impl<V: Stands> Turn<V> {
         ensures from { from.new ≡ from.old }
         ensures later { IsLater to.old to.new }
         ensures turn { to.new.holds ≡ to.old.holds }
-        ensures told { StartsWith to.new.seen from.old.seen }
+        ensures seen { StartsWith to.new.seen from.old.seen }
+        ensures room { self.now.first + length to.new.seen ≤ 2 ^ 62 }
         ensures ok { result ≡ Ok tt }
     {
         self.desk.meet(&mut from.pass, &mut to.pass);
@@ -115,7 +127,8 @@ impl<V: Stands> Turn<V> {
     /// The value, once all seats are given back and none has the turn.
     pub fn close(self, seats: SeatList<V>) -> V
         requires { AreSeats self.id self.seats seats }
-        ensures { (history : List (Entry V.Act)) × V.stands result self.base self.first history × IsHistory seats history }
+        ensures { (history : List (Entry V.Act)) × V.stands result self.base self.first history
+            × IsHistory seats history }
     {
         let pass = gather(&self.desk, seats.into_vec());
         let Turn { desk } = self;
