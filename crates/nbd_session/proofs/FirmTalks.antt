@@ -148,7 +148,7 @@ firm_options export n hello (suc left) =
 
 firm_hello : (export : Export) (n : ℕ) (found : Option Hello) → IsFirm (after_hello export n found)
 firm_hello export n None = firm_stop BadHello true
-firm_hello export n (Some hello) = firm_options export n hello 64
+firm_hello export n (Some hello) = firm_front (options export n hello 64) ([] ∷ []) [] (firm_options export n hello 64)
 
 firm_greeted : (export : Export) (n : ℕ) → IsFirm (greeted export n)
 firm_greeted export n =

@@ -1,13 +1,14 @@
 -- What answers that fit come to.
 use Rattle.std.proofs.Common.{◌≡◌, ◌≢◌, ℕ, suc, ◌+◌, ◌<◌, ◌≤◌, ◌^◌, ◌⊎◌, inl, inr, Bool, true, false, List, [], ◌∷◌, ◌++◌, length, map, count_by, cond, refl, sym, ap, ◌∙◌, subst, arith, length-append}
 use Rattle.std.proofs.lemmas.List.Sums.{sum_by-cons}
+use Rattle.sector_extent.specs.CauseLaws.{calm}
 use Rattle.flat_image.specs.declared.act.Act.{Act}
 use Rattle.flat_image.specs.declared.act.Act.TheVariants as act
 use Rattle.flat_image.specs.declared.act.Asked.TheVariants.{Nothing}
 use Rattle.flat_image.specs.declared.stands.Entry.{Entry}
 use Rattle.flat_image.specs.Entries.{entry, calls_by}
 use Rattle.flat_image.specs.History.{History}
-use Rattle.flat_image.specs.Ports.{PortState, IsWorn, Notes}
+use Rattle.flat_image.specs.Ports.{PortState, IsWorn, fault_count, Notes}
 use Rattle.flat_image.proofs.PortLaws.{Notes-none, Notes-trans}
 use Rattle.nbd_session.specs.declared.errno.Errno.TheVariants.{Permission, InputOutput, Memory, Invalid, Space, Shutdown}
 use Rattle.nbd_session.specs.declared.job.Job.{Job}
@@ -15,7 +16,7 @@ use Rattle.nbd_session.specs.declared.job.Job.TheVariants.{Read, Write, Zero, Fl
 use Rattle.nbd_session.specs.Replies.{Answer, Good, Bad}
 use Rattle.nbd_session.specs.Talks.{Passed}
 use Rattle.nbd_session.specs.Fits.{Changes, Does, Fits}
-use Rattle.nbd_session.proofs.OneAnswer.{later_base, later_number, later_seen, step}
+use Rattle.nbd_session.proofs.OneAnswer.{later_base, later_number, later_seen, later_worn, step}
 use Rattle.nbd_session.specs.SessionLaws.{ChangeNotes, JobNotes, IsInTime, AreAnswered, is_io, FitsHistory}
 
 -- ---- a history that is not full yet
@@ -65,9 +66,9 @@ io_some (Zero at count fua) items noted row = failed_some (act.Zero at count) fu
 io_some Flush items noted row = length_is noted (act.Fault Nothing ∷ []) row (omega arith)
 
 space_going : (takes : Bool) (p q : PortState) (change : Act) (fua : Bool) → Changes takes p q change fua (Bad Space) → IsWorn p → ⊥
-space_going takes p q change false h = h.2
+space_going takes p q change false h = λ worn. h.0 (later_worn p q [] h.2 worn)
 space_going takes p q change true h = elim h [
-  | inl refused ↦ refused.2
+  | inl refused ↦ λ worn. refused.0 (later_worn p q [] refused.2 worn)
   | inr (mid, made, refused) ↦ absurd refused
 ]
 
@@ -112,7 +113,7 @@ fits_notes takes p q [] [] same = ([], subst (λ s. Notes p s []) (sym same) (No
 fits_notes takes p q [] (answer ∷ answers) h = absurd h
 fits_notes takes p q (x ∷ passed) [] h = absurd h
 fits_notes takes p q (x ∷ passed) (answer ∷ answers) (mid, does, rest) =
-    let s = step takes p mid x.job x.bytes answer does in
+    let s = step takes p mid x.job x.bytes answer does.does in
     let (acts, notes) = fits_notes takes mid q passed answers rest in
     (s.noted ++ acts, Notes-trans p mid q s.noted acts s.notes notes)
 
@@ -122,7 +123,7 @@ answered takes old p new before [] [] n same = (before, subst (λ s. Notes old s
 answered takes old p new before [] (answer ∷ answers) n h = absurd h
 answered takes old p new before (x ∷ passed) [] n h = absurd h
 answered takes old p new before (x ∷ passed) (answer ∷ answers) n (mid, does, rest) =
-    let s = step takes p mid x.job x.bytes answer does in
+    let s = step takes p mid x.job x.bytes answer does.does in
     let (others, notes) = fits_notes takes mid new passed answers rest in
     let (acts, whole, each) = answered takes old mid new (before ++ s.noted) passed answers (Notes-trans old p mid before s.noted n s.notes) rest in (
       acts,
@@ -131,7 +132,7 @@ answered takes old p new before (x ∷ passed) (answer ∷ answers) n (mid, does
         s.noted,
         s.row,
         s.holds old new before others n notes,
-        in_time takes old p mid new before (s.noted ++ others) x.job x.bytes answer n (Notes-trans p mid new s.noted others s.notes notes) does,
+        in_time takes old p mid new before (s.noted ++ others) x.job x.bytes answer n (Notes-trans p mid new s.noted others s.notes notes) does.does,
         each,
       ),
     )
@@ -166,7 +167,20 @@ fits_faults takes p q [] (answer ∷ answers) h = absurd h
 fits_faults takes p q (x ∷ passed) [] h = absurd h
 fits_faults takes p q (x ∷ passed) (answer ∷ answers) (mid, does, rest) =
     let more : count_by is_io (answer ∷ answers) ≡ cond (is_io answer) 1 0 + count_by is_io answers = sum_by-cons (λ x. cond (is_io x) 1 0) answer answers in
-    omega (arith, more, does_faults takes p mid x.job x.bytes answer does, fits_faults takes mid q passed answers rest)
+    omega (arith, more, does_faults takes p mid x.job x.bytes answer does.does, fits_faults takes mid q passed answers rest)
+
+-- an answer that is not EIO
+other_answer : (answer : Answer) → cond {A = ℕ} (is_io answer) 1 0 ≡ 0 → answer ≡ Bad InputOutput → ⊥
+other_answer answer none is = let number : Answer → ℕ = λ a. cond (is_io a) 1 0 in let one : number answer ≡ 1 = ap number is in omega (arith, none, one)
+
+fits_spared : (takes : Bool) (p q : PortState) (passed : List Passed) (answers : List Answer) → Fits takes p passed answers q → count_by is_io answers ≡ 0 → q.faults ≡ p.faults
+fits_spared takes p q [] [] same none = ap (λ s. s.faults) same
+fits_spared takes p q [] (answer ∷ answers) h none = absurd h
+fits_spared takes p q (x ∷ passed) [] h none = absurd h
+fits_spared takes p q (x ∷ passed) (answer ∷ answers) (mid, does, rest) none =
+    let more : count_by is_io (answer ∷ answers) ≡ cond (is_io answer) 1 0 + count_by is_io answers = sum_by-cons (λ x. cond (is_io x) 1 0) answer answers in
+    let other = other_answer answer (omega (arith, more, none)) in
+    fits_spared takes mid q passed answers rest (omega (arith, more, none)) ∙ calm fault_count p mid (answer ≡ Bad InputOutput) does.cause other
 
 pub fits_history : (takes : Bool) (old new : PortState) (passed : List Passed) (answers : List Answer) → Fits takes old passed answers new → FitsHistory takes old passed answers new
 fits_history takes old new passed answers h =
@@ -181,4 +195,5 @@ fits_history takes old new passed answers h =
       own = notes.own;
       answered = each;
       faults = fits_faults takes old new passed answers h;
+      spared = fits_spared takes old new passed answers h;
     }

@@ -4,6 +4,7 @@ pub mod Steps
 pub mod Cuts
 pub mod OneRequest
 pub mod NextRequest
+pub mod Charged
 pub mod Replied
 pub mod Bases
 pub mod WholeRequest

@@ -1,5 +1,5 @@
 -- What one request noted, and what is so where it is answered.
-use Rattle.std.proofs.Common.{◌≡◌, ℕ, suc, ◌+◌, ◌≤◌, ◌^◌, ◌⊎◌, inl, inr, Bool, true, false, List, [], ◌∷◌, ◌++◌, length, drop, map, cond, refl, sym, ap, ◌∙◌, subst, arith, append_assoc, append-nil, length-append, eq-eqb}
+use Rattle.std.proofs.Common.{◌≡◌, ℕ, suc, ◌+◌, ◌≤◌, ◌^◌, ◌⊎◌, inl, inr, Bool, IsTrue, true, false, List, [], ◌∷◌, ◌++◌, length, drop, map, cond, refl, sym, ap, ◌∙◌, subst, arith, append_assoc, append-nil, length-append, eq-eqb}
 use Rattle.std.proofs.lemmas.List.{drop_at}
 use Rattle.flat_image.specs.declared.act.Act.{Act}
 use Rattle.flat_image.specs.declared.act.Act.TheVariants as act
@@ -82,7 +82,7 @@ reply_at old p q new before others at count bytes n r rest =
       subst (λ k. StartsWith new.seen ((p.seen ++ r.before) ++ entry k (act.Read at count) ∷ [])) (later_number old p before n)
           (StartsWith-trans new.seen q.seen ((p.seen ++ r.before) ++ entry p.number (act.Read at count) ∷ []) more
           (record { rest = r.behind; is = r.seen ∙ sym (append_assoc (p.seen ++ r.before) (entry p.number (act.Read at count) ∷ []) r.behind) })),
-      r.sectors ∙ ap (λ b. reply b (p.seen ++ r.before) at count) (later_base old p before n),
+      λ told. r.sectors (subst IsTrue (sym (ap (λ s. s.tells) n.is)) told) ∙ ap (λ b. reply b (p.seen ++ r.before) at count) (later_base old p before n),
     )
 
 -- the place where a change had room
@@ -135,6 +135,10 @@ pub record Step (takes : Bool) (p q : PortState) (job : Job) (items : List ℕ) 
   pub row : JobNotes job items answer noted
   pub holds : (old new : PortState) (before others : List Act) → Notes old p before → Notes q new others → Holds takes old new before job items noted answer
 
+-- nothing was put to the port
+nothing_put : (p q : PortState) → q ≡ p → Notes p q []
+nothing_put p q same = subst (λ s. Notes p s []) (sym same) (Notes-none p)
+
 read_refused : (takes : Bool) (p q : PortState) (at count : ℕ) (items : List ℕ) (errno : Errno) → ReadRefused p q at count errno → Step takes p q (Read at count) items (Bad errno)
 read_refused takes p q at count items Permission h = absurd h
 read_refused takes p q at count items InputOutput (rose, how) = elim how [
@@ -145,8 +149,11 @@ read_refused takes p q at count items InputOutput (rose, how) = elim how [
   ]
 ]
 read_refused takes p q at count items Memory how = elim how [
-  | inl n ↦ record { noted = []; notes = n; row = inl refl; holds = λ old new before others n rest. tt }
-  | inr n ↦ record { noted = act.Read at count ∷ []; notes = n; row = inr refl; holds = λ old new before others n rest. tt }
+  | inl same ↦ record { noted = []; notes = nothing_put p q same; row = inl refl; holds = λ old new before others n rest. tt }
+  | inr (open_still, said) ↦ elim said [
+    | inl n ↦ record { noted = []; notes = n; row = inl refl; holds = λ old new before others n rest. tt }
+    | inr n ↦ record { noted = act.Read at count ∷ []; notes = n; row = inr refl; holds = λ old new before others n rest. tt }
+  ]
 ]
 read_refused takes p q at count items Invalid h = absurd h
 read_refused takes p q at count items Space h = absurd h
@@ -165,10 +172,13 @@ change_refused takes p q change InputOutput h =
       row = refl;
       holds = λ old new before others n rest. room_at old p q new before (act.Fault Nothing) change n h.1 (later_seen q new others rest);
     }
-change_refused takes p q change Memory h = record { noted = []; notes = h; row = refl; holds = λ old new before others n rest. inl refl }
+change_refused takes p q change Memory h = elim h [
+  | inl same ↦ record { noted = []; notes = nothing_put p q same; row = refl; holds = λ old new before others n rest. inl refl }
+  | inr said ↦ record { noted = []; notes = said.2; row = refl; holds = λ old new before others n rest. inl refl }
+]
 change_refused takes p q change Invalid h = absurd h
 change_refused takes p q change Space h =
-    record { noted = []; notes = h.1; row = refl; holds = λ old new before others n rest. over_at old p q new before others change n h.1 rest h.0 }
+    record { noted = []; notes = h.2; row = refl; holds = λ old new before others n rest. over_at old p q new before others change n h.2 rest h.1 }
 change_refused takes p q change Shutdown h =
     record { noted = []; notes = h.1; row = refl; holds = λ old new before others n rest. later_worn q new others rest h.0 }
 
@@ -185,9 +195,9 @@ flush_refused takes p mid q change InputOutput made h = record {
 }
 flush_refused takes p mid q change Memory made h = record {
   noted = change ∷ [];
-  notes = Notes-trans p mid q (change ∷ []) [] made.notes h.1;
+  notes = Notes-trans p mid q (change ∷ []) [] made.notes h.2;
   row = inr ([], refl, refl);
-  holds = λ old new before others n rest. inr h.0;
+  holds = λ old new before others n rest. inr h.1;
 }
 flush_refused takes p mid q change Invalid made h = absurd h
 flush_refused takes p mid q change Space made h = absurd h
@@ -252,7 +262,7 @@ flush_step takes p q items (Good bytes) (is, flushed) =
 flush_step takes p q items (Bad Permission) h = absurd h
 flush_step takes p q items (Bad InputOutput) h =
     record { noted = act.Fault Nothing ∷ []; notes = h.1; row = refl; holds = λ old new before others n rest. tt }
-flush_step takes p q items (Bad Memory) h = record { noted = []; notes = h.1; row = refl; holds = λ old new before others n rest. h.0 }
+flush_step takes p q items (Bad Memory) h = record { noted = []; notes = h.2; row = refl; holds = λ old new before others n rest. h.1 }
 flush_step takes p q items (Bad Invalid) h = absurd h
 flush_step takes p q items (Bad Space) h = absurd h
 flush_step takes p q items (Bad Shutdown) h =

@@ -27,7 +27,7 @@ use Rattle.nbd_session.specs.Options.{Next, More, Start, Stop, OptionAnswer}
 use Rattle.nbd_session.specs.Talks.{Talk, Rest, front, asks, tested, after_magic, one_request, transmission, goes_on, answered, after_option, after_head, with_head, options, after_hello, greeted, talk}
 use Rattle.nbd_session.specs.Fits.{Fits}
 use Rattle.nbd_session.specs.Sessions.{Ends, Why}
-use Rattle.nbd_session.specs.Completeness.{Offer, Message, answer_to, AreOptions, IsProper, IsGoodbye, IsOrderly, IsCalm, JobFits, Fitting, told, replies, IsWell, IsServed, OrderlyAreServed, NoneEnds, EndsOrWants}
+use Rattle.nbd_session.specs.Completeness.{Offer, Message, answer_to, AreOptions, IsProper, IsGoodbye, IsOrderly, IsCalm, JobHasRoom, HasRoomForIt, option_replies, replies, IsWell, IsServed, OrderlyAreServed, NoneEnds, EndsOrWants}
 use Rattle.nbd_session.proofs.Greetings.{greeted-whole, with_head-whole, options-some}
 use Rattle.nbd_session.proofs.Steps.{front-front}
 use Rattle.nbd_session.proofs.OneRequest.{one_request-whole, one_request-none, with_job-whole, after_request-done, after_request-tested}
@@ -97,21 +97,21 @@ ran_none takes p new (answer ∷ answers) t hungry is fits = absurd (subst (λ s
 
 requests_run : (takes : Bool) (export : Export) (n : ℕ) (base : Base) (new : PortState) (tail : List ℕ) → IsGoodbye tail → (IsWorn new → ⊥)
     → (requests : List Message) (left : ℕ) (answers : List Answer) (p : PortState)
-    → All (IsProper export n) requests → length requests < left → All (Fitting export n base new.seen) requests → p.base ≡ base → new.faults ≤ p.faults
+    → All (IsProper export n) requests → length requests < left → All (HasRoomForIt export n base new.seen) requests → p.base ≡ base → new.faults ≤ p.faults
     → Fits takes p (transmission export n left (sent_by requests ++ tail) answers).passed answers new
     → Ran requests answers (transmission export n left (sent_by requests ++ tail) answers)
-requests_run takes export n base new tail end going [] zero answers p proper many fitting same calm fits = absurd (omega arith)
-requests_run takes export n base new tail end going [] (suc left) answers p proper many fitting same calm fits =
+requests_run takes export n base new tail end going [] zero answers p proper many roomy same calm fits = absurd (omega arith)
+requests_run takes export n base new tail end going [] (suc left) answers p proper many roomy same calm fits =
     let (hungry, is) = goodbye export n (transmission export n left) tail answers end in
     ran_none takes p new answers (transmission export n (suc left) tail answers) hungry (transmission_more export n left tail answers ∙ is) fits
-requests_run takes export n base new tail end going (m ∷ requests) zero answers p proper many fitting same calm fits = absurd (omega arith)
-requests_run takes export n base new tail end going (m ∷ requests) (suc left) [] p proper many fitting same calm fits =
+requests_run takes export n base new tail end going (m ∷ requests) zero answers p proper many roomy same calm fits = absurd (omega arith)
+requests_run takes export n base new tail end going (m ∷ requests) (suc left) [] p proper many roomy same calm fits =
     let h = All-head (IsProper export n) m requests proper in
     let is = transmission_more export n left ((m.bytes ++ sent_by requests) ++ tail) []
     ∙ (ap (λ l. one_request export n (transmission export n left) l []) (append_assoc m.bytes (sent_by requests) tail)
     ∙ proper_asks export n (transmission export n left) m h (sent_by requests ++ tail) []) in
     absurd (subst (λ t. Fits takes p t.passed [] new) is fits)
-requests_run takes export n base new tail end going (m ∷ requests) (suc left) (answer ∷ answers) p proper many fitting same calm fits =
+requests_run takes export n base new tail end going (m ∷ requests) (suc left) (answer ∷ answers) p proper many roomy same calm fits =
     let h = All-head (IsProper export n) m requests proper in
     let go = transmission export n left in
     let more = sent_by requests ++ tail in
@@ -119,15 +119,15 @@ requests_run takes export n base new tail end going (m ∷ requests) (suc left) 
     ∙ (ap (λ l. one_request export n (transmission export n left) l (answer ∷ answers)) (append_assoc m.bytes (sent_by requests) tail)
     ∙ proper_asks export n (transmission export n left) m h (sent_by requests ++ tail) (answer ∷ answers)) in
     let (mid, does, rest) = subst (λ t. Fits takes p t.passed (answer ∷ answers) new) is fits in
-    let (noted, notes) = does_notes takes p mid h.job m.items answer does in
+    let (noted, notes) = does_notes takes p mid h.job m.items answer does.does in
     let (others, later) = fits_notes takes mid new (go more answers).passed answers rest in
-    let fit = All-head (Fitting export n base new.seen) m requests fitting h.job h.asks in
+    let fit = All-head (HasRoomForIt export n base new.seen) m requests roomy h.job h.asks in
     let run = requests_run takes export n base new tail end going requests left answers mid (All-tail (IsProper export n) m requests proper) (omega arith)
-    (All-tail (Fitting export n base new.seen) m requests fitting) (later_base p mid noted notes ∙ same) (omega (arith, notes.later)) rest in
+    (All-tail (HasRoomForIt export n base new.seen) m requests roomy) (later_base p mid noted notes ∙ same) (omega (arith, notes.later)) rest in
     record {
       done = ap (λ s. s.end) is ∙ run.done;
       each = ap suc run.each;
-      well = All-cons IsWell answer answers (does_well takes p mid new others h.job m.items answer does later calm going (subst (λ b. JobFits b new.seen h.job m.items) (sym same) fit)) run.well;
+      well = All-cons IsWell answer answers (does_well takes p mid new others h.job m.items answer does.does later calm going (subst (λ b. JobHasRoom b new.seen h.job m.items) (sym same) fit)) run.well;
       sent = ap (λ s. s.pieces) is ∙ ap (λ l. reply_of m.request.cookie answer ∷ l) run.sent;
     }
 
@@ -203,7 +203,7 @@ other_reads export n hello o offers t u same how = elim how [
 pub options_run : (export : Export) (n : ℕ) (hello : Hello) (offers : List Offer) (left : ℕ) (more : List ℕ) (answers : List Answer)
     → AreOptions export n hello offers → length offers ≤ left
     → Reads export n hello offers (options export n hello left (offered offers ++ more) answers)
-    → options export n hello left (offered offers ++ more) answers ≡ front (told export n hello offers) [] (transmission export n (2 ^ 62) more answers)
+    → options export n hello left (offered offers ++ more) answers ≡ front (option_replies export n hello offers) [] (transmission export n (2 ^ 62) more answers)
 options_run export n hello [] left more answers are few how = absurd are
 options_run export n hello (o ∷ []) zero more answers are few how = absurd (omega arith)
 options_run export n hello (o ∷ []) (suc left) more answers (is, begins) few how =
@@ -231,7 +231,7 @@ options_run export n hello (o ∷ next ∷ offers) (suc left) more answers (is, 
     first
     ∙ (ap (front (answer.said ∷ []) []) (on ∙ options_run export n hello (next ∷ offers) left more answers are (omega arith)
     (other_reads export n hello o (next ∷ offers) whole (go rest answers) (unread ∙ ap (λ t. t.unread) on) how))
-    ∙ front-front (answer.said ∷ []) (told export n hello (next ∷ offers)) [] [] (start more answers))
+    ∙ front-front (answer.said ∷ []) (option_replies export n hello (next ∷ offers)) [] [] (start more answers))
 
 -- ---- the first word
 
@@ -240,7 +240,7 @@ hello_read true = refl
 hello_read false = refl
 
 word_read : (export : Export) (n : ℕ) (word : List ℕ) (hello : Hello) (more : List ℕ) (answers : List Answer) → HelloOf word hello
-    → greeted export n (word ++ more) answers ≡ options export n hello 64 more answers
+    → greeted export n (word ++ more) answers ≡ front ([] ∷ []) [] (options export n hello 64 more answers)
 word_read export n word hello more answers h =
     greeted-whole export n word more answers (ap length h)
     ∙ ap (λ o. after_hello export n o more answers) (ap hello_at h ∙ hello_read hello.no_zeroes)
@@ -251,15 +251,15 @@ word_read export n word hello more answers h =
 pub orderly_talk : (export : Export) (n : ℕ) (bytes : List ℕ) (answers : List Answer) (o : IsOrderly export n bytes)
     → Reads export n o.hello o.options (talk export n bytes answers)
     → talk export n bytes answers
-    ≡ front (server_hello ∷ []) [] (front (told export n o.hello o.options) [] (transmission export n (2 ^ 62) (sent_by o.requests ++ o.tail) answers))
+    ≡ front (server_hello ∷ [] ∷ []) [] (front (option_replies export n o.hello o.options) [] (transmission export n (2 ^ 62) (sent_by o.requests ++ o.tail) answers))
 orderly_talk export n bytes answers o how =
     let rest = sent_by o.requests ++ o.tail in
     let handshake = options export n o.hello 64 (offered o.options ++ rest) answers in
-    let begins : talk export n bytes answers ≡ front (server_hello ∷ []) [] handshake =
+    let begins : talk export n bytes answers ≡ front (server_hello ∷ [] ∷ []) [] handshake =
     talk-said export n server_hello refl bytes answers
     ∙ (ap (λ l. front (server_hello ∷ []) [] (greeted export n l answers)) o.is
     ∙ ap (front (server_hello ∷ []) []) (word_read export n o.word o.hello (offered o.options ++ rest) answers o.hello_is)) in
-    begins ∙ ap (front (server_hello ∷ []) []) (options_run export n o.hello o.options 64 rest answers o.options_are o.few
+    begins ∙ ap (front (server_hello ∷ [] ∷ []) []) (options_run export n o.hello o.options 64 rest answers o.options_are o.few
     (subst (λ l. (l ≡ []) ⊎ NoneEnds export n o.hello o.options) (ap (λ t. t.unread) begins) how))
 
 -- without a fault the talk gives the end
@@ -280,22 +280,22 @@ end_of old new t Memory why calm = absurd why
 -- a talk over bytes that are in order, all of which were read
 pub orderly_served : (takes : Bool) (export : Export) (n : ℕ) (old new : Ends) (end : Served) (bytes : List ℕ) (answers : List Answer) (o : IsOrderly export n bytes)
     → Fits takes old.port (talk export n bytes answers).passed answers new.port → (talk export n bytes answers).end ≡ end → (talk export n bytes answers).unread ≡ []
-    → IsCalm old new → All (Fitting export n old.port.base new.port.seen) o.requests → IsServed export n bytes o answers end
-orderly_served takes export n old new end bytes answers o fits ends read calm fitting =
+    → IsCalm old new → All (HasRoomForIt export n old.port.base new.port.seen) o.requests → IsServed export n bytes o answers end
+orderly_served takes export n old new end bytes answers o fits ends read calm roomy =
     let is = orderly_talk export n bytes answers o (inl read) in
     let run = requests_run takes export n old.port.base new.port o.tail o.goodbye calm.going o.requests (2 ^ 62) answers old.port
-    o.requests_are o.many fitting refl calm.port (subst (λ s. Fits takes old.port s.passed answers new.port) is fits) in
+    o.requests_are o.many roomy refl calm.port (subst (λ s. Fits takes old.port s.passed answers new.port) is fits) in
     record {
       done = sym ends ∙ (ap (λ s. s.end) is ∙ run.done);
       each = run.each;
       well = run.well;
-      sent = ap (λ s. s.pieces) is ∙ ap (λ l. server_hello ∷ (told export n o.hello o.options ++ l)) run.sent;
+      sent = ap (λ s. s.pieces) is ∙ ap (λ l. server_hello ∷ [] ∷ (option_replies export n o.hello o.options ++ l)) run.sent;
     }
 
 pub orderly_are_served : (takes : Bool) (export : Export) (n : ℕ) (old new : Ends) (end : Served) → OrderlyAreServed takes export n old new end
-orderly_are_served takes export n old new end e o calm fitting =
+orderly_are_served takes export n old new end e o calm roomy =
     let (ends, read, at_end) = end_of old new (talk export n e.read e.answers) end e.why calm in
-    orderly_served takes export n old new end e.read e.answers o e.fits ends read calm fitting
+    orderly_served takes export n old new end e.read e.answers o e.fits ends read calm roomy
 
 pub ends_or_wants : (takes : Bool) (talk : Rest) (old new : Ends) (end : Served) → EndsOrWants takes talk old new end
 ends_or_wants takes talk old new Done h = inr h

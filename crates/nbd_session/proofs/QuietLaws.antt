@@ -12,7 +12,7 @@ use Rattle.nbd_session.specs.declared.job.Job.TheVariants.{Read, Write, Zero, Fl
 use Rattle.nbd_session.specs.Replies.{Answer, Good, Bad}
 use Rattle.nbd_session.specs.Fits.{Does}
 use Rattle.nbd_session.specs.SessionLaws.{IsTooMuch}
-use Rattle.nbd_session.specs.Completeness.{JobFits, IsWell}
+use Rattle.nbd_session.specs.Completeness.{JobHasRoom, IsWell}
 use Rattle.nbd_session.proofs.OneAnswer.{does_holds}
 use Rattle.nbd_session.proofs.FitsLaws.{does_io}
 
@@ -22,14 +22,14 @@ room_or_over base seen change room over = elim over [
   | inr sectors ↦ omega (arith, room.sectors_fit, sectors)
 ]
 
-enough : (base : Base) (seen front : History) (job : Job) (items : List ℕ) → JobFits base seen job items → StartsWith seen front → IsTooMuch base front job items → ⊥
+enough : (base : Base) (seen front : History) (job : Job) (items : List ℕ) → JobHasRoom base seen job items → StartsWith seen front → IsTooMuch base front job items → ⊥
 enough base seen front (Read at count) items fits within over = over
 enough base seen front (Write at count fua) items fits within over = room_or_over base front (act.Write at items) (fits front within) over
 enough base seen front (Zero at count fua) items fits within over = room_or_over base front (act.Zero at count) (fits front within) over
 enough base seen front Flush items fits within over = over
 
 pub does_well : (takes : Bool) (p q new : PortState) (others : List Act) (job : Job) (items : List ℕ) (answer : Answer) → Does takes p q job items answer → Notes q new others
-    → new.faults ≤ p.faults → (IsWorn new → ⊥) → JobFits p.base new.seen job items → IsWell answer
+    → new.faults ≤ p.faults → (IsWorn new → ⊥) → JobHasRoom p.base new.seen job items → IsWell answer
 does_well takes p q new others job items (Good bytes) h rest calm going fits = inl (bytes, refl)
 does_well takes p q new others job items (Bad Permission) h rest calm going fits = absurd ((does_holds takes p q new others job items (Bad Permission) h rest).1)
 does_well takes p q new others job items (Bad InputOutput) h rest calm going fits =

@@ -3,7 +3,6 @@ use Rattle.std.proofs.Common.{◌≡◌, ℕ, ◌≤◌, Bool, true, false, List
 use Rattle.std.specs.Prelude.{Option, Result}
 use Rattle.std.specs.Io.KnownBytes.{Consumes}
 use Rattle.flat_image.specs.Ports.{PortState}
-use Rattle.flat_image.proofs.PortLaws.{Notes-none}
 use Rattle.nbd_wire.specs.declared.request.Request.{Request}
 use Rattle.nbd_wire.specs.Requests.{data_length, simple_reply_bytes}
 use Rattle.nbd_session.specs.declared.errno.Errno.{Errno}
@@ -13,8 +12,9 @@ use Rattle.nbd_session.specs.declared.job.Job.TheVariants.{Read, Write}
 use Rattle.nbd_session.specs.declared.served.Served.{Served}
 use Rattle.nbd_session.specs.Replies.{Answer, Bad, errno_number, reply_of}
 use Rattle.nbd_session.specs.Talks.{Rest, asks, with_job, with_refusal}
-use Rattle.nbd_session.specs.Fits.{Does}
+use Rattle.nbd_session.specs.Fits.{Passes}
 use Rattle.nbd_session.specs.Sessions.{ends, Ended, GoesOn, IsIdle, said, IsCut, Sends}
+use Rattle.nbd_session.proofs.Charged.{charges_none}
 use Rattle.nbd_session.proofs.OneRequest.{with_job-whole, with_job-short, with_refusal-whole, with_refusal-short}
 use Rattle.nbd_session.proofs.Steps.{went_trans, goes_after, went_read, ended_cut, went_asked, sends_on}
 
@@ -22,7 +22,7 @@ module _ {T : Type 0} (takes : Bool) (go : Rest) (r : Request) (left left_now : 
   -- a request that was put to the port, behind these data
   pub job_replied : (job : Job) (bytes : List ℕ) (answer : Answer) (port port_now : PortState) (result : Result T Served) → IsIdle go
       → length bytes ≡ data_length r → Consumes left left_now bytes → reads ≤ reads_now
-      → Does takes port port_now job bytes answer → Sends written written_now writes writes_now (reply_of r.cookie answer) result
+      → Passes takes port port_now (record { job = job; bytes = bytes }) answer → Sends written written_now writes writes_now (reply_of r.cookie answer) result
       → GoesOn takes (with_job go r job) (λ _. go) (ends left reads written writes port) (ends left_now reads_now written_now writes_now port_now) result
   job_replied job bytes answer port port_now result idle whole taken later does sent =
       let read = went_read {takes = takes} (with_job go r job) (asks go r.cookie (record { job = job; bytes = bytes })) left left_now reads reads_now written writes port bytes taken later
@@ -55,9 +55,9 @@ module _ (takes : Bool) (go : Rest) (r : Request) (left left_now : Option (List 
       ended_cut (with_refusal go r refusal) left left_now reads reads_now written writes port (data_length r) end (λ bytes. true) (λ bytes short. with_refusal-short go r refusal bytes [] short) cut
 
 -- a READ or a WRITE whose own bytes found no memory, and the port was not called
-pub read-no_memory : (takes : Bool) (port : PortState) (at count : ℕ) (bytes : List ℕ) → Does takes port port (Read at count) bytes (Bad errno.Memory)
-read-no_memory takes port at count bytes = inl (Notes-none port)
+pub read-no_memory : (takes : Bool) (port : PortState) (at count : ℕ) (bytes : List ℕ) → Passes takes port port (record { job = Read at count; bytes = bytes }) (Bad errno.Memory)
+read-no_memory takes port at count bytes = record { does = inl refl; cause = charges_none port (Bad errno.Memory) (λ e. cc) }
 
-pub write-no_memory : (takes : Bool) (port : PortState) (at count : ℕ) (fua : Bool) (bytes : List ℕ) → Does takes port port (Write at count fua) bytes (Bad errno.Memory)
-write-no_memory takes port at count false bytes = Notes-none port
-write-no_memory takes port at count true bytes = inl (Notes-none port)
+pub write-no_memory : (takes : Bool) (port : PortState) (at count : ℕ) (fua : Bool) (bytes : List ℕ) → Passes takes port port (record { job = Write at count fua; bytes = bytes }) (Bad errno.Memory)
+write-no_memory takes port at count false bytes = record { does = inl refl; cause = charges_none port (Bad errno.Memory) (λ e. cc) }
+write-no_memory takes port at count true bytes = record { does = inl (inl refl); cause = charges_none port (Bad errno.Memory) (λ e. cc) }

@@ -10,10 +10,10 @@ use Rattle.nbd_session.specs.declared.served.Served.{Served}
 use Rattle.nbd_session.specs.declared.served.Served.TheVariants.{Done, Aborted, BadHello, BadMagic, Truncated, Oversized, TooManyOptions, UnknownExport, TooManyRequests, SourceFault, SinkFault, Memory}
 use Rattle.nbd_session.specs.Replies.{Answer, reply_of}
 use Rattle.nbd_session.specs.Talks.{Passed, Talk, Rest, front, stop, stop_at, asks}
-use Rattle.nbd_session.specs.Fits.{Does, Fits}
+use Rattle.nbd_session.specs.Fits.{Passes, Fits}
 use Rattle.nbd_session.specs.Sessions.{Ends, ends, Ending, Why, Ended, Went, GoesOn, IsIdle, said, IsCut, Sends}
 
--- ---- fitting answers
+-- ---- roomy answers
 
 pub Fits-append : (takes : Bool) (p q r : PortState) (passed others : List Passed) (xs answers : List Answer)
     → Fits takes p passed xs q → Fits takes q others answers r → Fits takes p (passed ++ others) (xs ++ answers) r
@@ -176,6 +176,24 @@ went_read talk rest left left_now reads reads_now written writes port bytes take
   goes = goes;
 }
 
+-- just these bytes were taken, and they are answered by none
+pub went_unanswered : {takes : Bool} (talk rest : Rest) (left left_now : Option (List ℕ)) (reads reads_now : ℕ) (written : Option (List ℕ)) (writes : ℕ) (port : PortState) (bytes : List ℕ)
+    → Consumes left left_now bytes → reads ≤ reads_now
+    → ((more : List ℕ) (others : List Answer) → talk (bytes ++ more) others ≡ front ([] ∷ []) [] (rest more others))
+    → Went takes talk rest (ends left reads written writes port) (ends left_now reads_now written writes port)
+went_unanswered talk rest left left_now reads reads_now written writes port bytes taken later goes = record {
+  read = bytes;
+  pieces = [] ∷ [];
+  passed = [];
+  answers = [];
+  taken = taken;
+  sent = Appends-nil written;
+  fits = refl;
+  reads_later = later;
+  writes_later = omega arith;
+  goes = goes;
+}
+
 -- a word ended the connection, and nothing behind it was read. The last argument is `λ e. e` at each end that is no fault
 pub ended_word : {takes : Bool} (talk : Rest) (left left_now : Option (List ℕ)) (reads reads_now : ℕ) (written : Option (List ℕ)) (writes : ℕ) (port : PortState) (end : Served) (begun : Bool) (bytes : List ℕ)
     → Consumes left left_now bytes → talk bytes [] ≡ stop_at end begun []
@@ -236,7 +254,7 @@ ended_cut {takes} talk left left_now reads reads_now written writes port size en
 
 -- a request was put to the port and answered; its reply is still to be sent
 pub went_asked : {takes : Bool} (go : Rest) (cookie : ℕ) (passed : Passed) (answer : Answer) (left : Option (List ℕ)) (reads : ℕ) (written : Option (List ℕ)) (writes : ℕ) (port port_now : PortState)
-    → Does takes port port_now passed.job passed.bytes answer
+    → Passes takes port port_now passed answer
     → Went takes (asks go cookie passed) (said (reply_of cookie answer) go) (ends left reads written writes port) (ends left reads written writes port_now)
 went_asked go cookie passed answer left reads written writes port port_now does = record {
   read = [];

@@ -54,7 +54,7 @@ none_left export n read rest answers left is unread at_end whole = elim (cases_B
 ]
 
 pub told_are_served : (takes : Bool) (export : Export) (n : ℕ) (old new : Ends) (end : Served) → ToldAreServed takes export n old new end
-told_are_served takes export n old new end e bytes tells o none calm fitting =
+told_are_served takes export n old new end e bytes tells o none calm roomy =
     let (rest, left, split) = left_of old.left new.left bytes e.read tells e.taken in
     let (ends, unread, at_end) = end_of old new (talk export n e.read e.answers) end e.why calm in
     let whole = subst (λ l. (talk export n l e.answers).unread ≡ []) split (all_read export n bytes e.answers o none) in
@@ -63,5 +63,5 @@ told_are_served takes export n old new end e bytes tells o none calm fitting =
       sym same,
       orderly_served takes export n old new end bytes e.answers o
           (subst (λ l. Fits takes old.port (talk export n l e.answers).passed e.answers new.port) (sym same) e.fits)
-          (ap (λ l. (talk export n l e.answers).end) same ∙ ends) (ap (λ l. (talk export n l e.answers).unread) same ∙ unread) calm fitting,
+          (ap (λ l. (talk export n l e.answers).end) same ∙ ends) (ap (λ l. (talk export n l e.answers).unread) same ∙ unread) calm roomy,
     )

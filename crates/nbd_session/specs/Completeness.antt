@@ -91,18 +91,19 @@ abbrev pub HasRoomAlong : Base → History → Act → Type 0
 HasRoomAlong base seen change = (front : History) → StartsWith seen front → HasRoomFor base front change
 
 -- there was room for the job with these data, if it is a change
-abbrev pub JobFits : Base → History → Job → List ℕ → Type 0
-JobFits base seen (Read at count) items = ⊤
-JobFits base seen (Write at count fua) items = HasRoomAlong base seen (act.Write at items)
-JobFits base seen (Zero at count fua) items = HasRoomAlong base seen (act.Zero at count)
-JobFits base seen Flush items = ⊤
+abbrev pub JobHasRoom : Base → History → Job → List ℕ → Type 0
+JobHasRoom base seen (Read at count) items = ⊤
+JobHasRoom base seen (Write at count fua) items = HasRoomAlong base seen (act.Write at items)
+JobHasRoom base seen (Zero at count fua) items = HasRoomAlong base seen (act.Zero at count)
+JobHasRoom base seen Flush items = ⊤
 
-abbrev pub Fitting : Export → ℕ → Base → History → Message → Type 0
-Fitting export n base seen m = (job : Job) → job_of export n m.request ≡ Ok job → JobFits base seen job m.items
+-- whatever job the request is, there was room for it
+abbrev pub HasRoomForIt : Export → ℕ → Base → History → Message → Type 0
+HasRoomForIt export n base seen m = (job : Job) → job_of export n m.request ≡ Ok job → JobHasRoom base seen job m.items
 
 -- what is sent back to options
-abbrev pub told : Export → ℕ → Hello → List Offer → List (List ℕ)
-told export n hello options = map (λ o. (answer_to export n hello o).said) options
+abbrev pub option_replies : Export → ℕ → Hello → List Offer → List (List ℕ)
+option_replies export n hello options = map (λ o. (answer_to export n hello o).said) options
 
 -- the replies to requests, one for each
 abbrev pub replies : List Message → List Answer → List (List ℕ)
@@ -119,12 +120,13 @@ pub record IsServed (export : Export) (n : ℕ) (bytes : List ℕ) (o : IsOrderl
   pub done : end ≡ served.Done
   pub each : length answers ≡ length o.requests
   pub well : All IsWell answers
-  pub sent : (talk export n bytes answers).pieces ≡ server_hello ∷ (told export n o.hello o.options ++ replies o.requests answers)
+  pub sent : (talk export n bytes answers).pieces
+      ≡ server_hello ∷ [] ∷ (option_replies export n o.hello o.options ++ replies o.requests answers)
 
 -- a client that is in order is served to the end
 abbrev pub OrderlyAreServed : Bool → Export → ℕ → Ends → Ends → Served → Type 0
 OrderlyAreServed takes export n old new end =
-    (e : Ended takes (talk export n) old new end) (o : IsOrderly export n e.read) → IsCalm old new → All (Fitting export n old.port.base new.port.seen) o.requests
+    (e : Ended takes (talk export n) old new end) (o : IsOrderly export n e.read) → IsCalm old new → All (HasRoomForIt export n old.port.base new.port.seen) o.requests
     → IsServed export n e.read o e.answers end
 
 -- no option ends the connection
@@ -135,7 +137,7 @@ NoneEnds export n hello options = All (λ o. (end : Served) → (answer_to expor
 abbrev pub ToldAreServed : Bool → Export → ℕ → Ends → Ends → Served → Type 0
 ToldAreServed takes export n old new end =
     (e : Ended takes (talk export n) old new end) (bytes : List ℕ) → old.left ≡ Some bytes → (o : IsOrderly export n bytes) → NoneEnds export n o.hello o.options
-    → IsCalm old new → All (Fitting export n old.port.base new.port.seen) o.requests → (e.read ≡ bytes) × IsServed export n bytes o e.answers end
+    → IsCalm old new → All (HasRoomForIt export n old.port.base new.port.seen) o.requests → (e.read ≡ bytes) × IsServed export n bytes o e.answers end
 
 -- the same talk with more bytes behind those that were not read
 abbrev pub with_more : Talk → List ℕ → Talk

@@ -36,9 +36,9 @@ one_read_out =
     0x00 ∷ 0x03 ∷ 0xE8 ∷ 0x89 ∷ 0x04 ∷ 0x55 ∷ 0x65 ∷ 0xA9 ∷ 0x00 ∷ 0x00 ∷ 0x00 ∷ 0x07 ∷ 0x00 ∷ 0x00 ∷ 0x00 ∷ 0x01 ∷ 0x00 ∷ 0x00 ∷ 0x00 ∷ 0x00 ∷
     0x67 ∷ 0x44 ∷ 0x66 ∷ 0x98 ∷ 0x00 ∷ 0x00 ∷ 0x00 ∷ 0x00 ∷ 0x00 ∷ 0x00 ∷ 0x00 ∷ 0x00 ∷ 0x00 ∷ 0x00 ∷ 0x00 ∷ 0x01 ∷ replicate 512 0
 
--- the same in pieces: the server's first word, the answer to the option, and the reply
+-- the same in pieces: the server's first word, nothing to the client's, the answer to the option, and the reply
 abbrev pub one_read_pieces : List (List ℕ)
-one_read_pieces = take 18 one_read_out ∷ take 86 (drop 18 one_read_out) ∷ drop 104 one_read_out ∷ []
+one_read_pieces = take 18 one_read_out ∷ [] ∷ take 86 (drop 18 one_read_out) ∷ drop 104 one_read_out ∷ []
 
 -- one sector of zeros is read from an image of four sectors: 82 bytes come in, and 632 go out
 pub record OneRead : Type 0 where
@@ -73,8 +73,8 @@ option_of option length = option_bytes (record { option = option; length = lengt
 pub record EndsSoon : Type 0 where
   pub cut : (talk img 4 (take 46 one_read_in) []).end ≡ Truncated
   pub long : talk img 4 (take 26 one_read_in ++ request_bytes (asking 0 1 0 33554433)) [] ≡ record
-      { pieces = take 2 one_read_pieces; passed = []; end = Oversized 33554433; hungry = false; begun = true; unread = [] }
+      { pieces = take 3 one_read_pieces; passed = []; end = Oversized 33554433; hungry = false; begun = true; unread = [] }
   pub lists : talk img 4 (to_be_bytes w32 3 ++ concat (replicate 65 (option_of 3 0))) [] ≡ record
-      { pieces = server_hello ∷ replicate 64 (listed img).said; passed = []; end = TooManyOptions; hungry = false; begun = true; unread = [] }
+      { pieces = server_hello ∷ [] ∷ replicate 64 (listed img).said; passed = []; end = TooManyOptions; hungry = false; begun = true; unread = [] }
   pub other : talk img 4 (to_be_bytes w32 3 ++ option_of 1 1 ++ codes "x") [] ≡ record
-      { pieces = server_hello ∷ [] ∷ []; passed = []; end = UnknownExport; hungry = false; begun = false; unread = [] }
+      { pieces = server_hello ∷ [] ∷ [] ∷ []; passed = []; end = UnknownExport; hungry = false; begun = false; unread = [] }

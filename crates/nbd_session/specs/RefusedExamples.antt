@@ -27,7 +27,7 @@ pub record Refusals : Type 0 where
       ++ request 0 0 0 256 ++ request 0 0 2048 512 ++ request 0 1 2048 512 ++ replicate 512 0x61 ++ request 0 0 2048 0 ++ request 0 9 0 0 ++ request 2 0 0 512)
       (Good [] ∷ [])
       ≡ record {
-        pieces = take 2 one_read_pieces ++ error 22 ∷ error 22 ∷ error 28 ∷ error 0 ∷ error 22 ∷ error 22 ∷ [];
+        pieces = take 3 one_read_pieces ++ error 22 ∷ error 22 ∷ error 28 ∷ error 0 ∷ error 22 ∷ error 22 ∷ [];
         passed = (record { job = Read 4 0; bytes = [] }) ∷ [];
         end = Done;
         hungry = true;
@@ -35,6 +35,6 @@ pub record Refusals : Type 0 where
         unread = [];
       }
   pub sealed_image : talk sealed 4 (take 26 one_read_in ++ request 0 1 0 512 ++ replicate 512 0x61) []
-      ≡ record { pieces = server_hello ∷ (informed sealed 4 7 Start).said ∷ error 1 ∷ []; passed = []; end = Done; hungry = true; begun = false; unread = [] }
+      ≡ record { pieces = server_hello ∷ [] ∷ (informed sealed 4 7 Start).said ∷ error 1 ∷ []; passed = []; end = Done; hungry = true; begun = false; unread = [] }
   pub option : talk img 4 (to_be_bytes w32 3 ++ option_of 8 0) []
-      ≡ record { pieces = server_hello ∷ option_reply_bytes 8 0x80000001 0 ∷ []; passed = []; end = Truncated; hungry = true; begun = false; unread = [] }
+      ≡ record { pieces = server_hello ∷ [] ∷ option_reply_bytes 8 0x80000001 0 ∷ []; passed = []; end = Truncated; hungry = true; begun = false; unread = [] }

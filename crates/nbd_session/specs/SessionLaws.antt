@@ -1,6 +1,6 @@
 -- What it comes to that answers fit, said of the history that the port saw: what each request noted, in order, and when
 -- each error may come.
-use Rattle.std.specs.Prelude.{◌≡◌, ℕ, ◌+◌, ◌^◌, ◌<◌, ◌≤◌, ◌==◌, ◌⊎◌, Bool, true, false, List, [], ◌∷◌, ◌++◌, length, map, count_by, ⊤}
+use Rattle.std.specs.Prelude.{◌≡◌, ℕ, ◌+◌, ◌^◌, ◌<◌, ◌≤◌, ◌==◌, ◌⊎◌, Bool, IsTrue, true, false, List, [], ◌∷◌, ◌++◌, length, map, count_by, ⊤}
 use Rattle.flat_image.specs.declared.act.Act.{Act}
 use Rattle.flat_image.specs.declared.act.Act.TheVariants as act
 use Rattle.flat_image.specs.declared.act.Asked.TheVariants.{Nothing}
@@ -67,7 +67,7 @@ pub record IsUpTo (old new : PortState) (acts : List Act) (front : History) : Ty
 abbrev pub IsReply : PortState → PortState → List Act → Job → List ℕ → Type 0
 IsReply old new before (Read at count) bytes =
     (front : History) × IsUpTo old new before front
-    × StartsWith new.seen (front ++ entry old.number (act.Read at count) ∷ []) × (bytes ≡ reply old.base front at count)
+    × StartsWith new.seen (front ++ entry old.number (act.Read at count) ∷ []) × (IsTrue old.tells → bytes ≡ reply old.base front at count)
 IsReply old new before (Write at count fua) bytes = bytes ≡ []
 IsReply old new before (Zero at count fua) bytes = bytes ≡ []
 IsReply old new before Flush bytes = bytes ≡ []
@@ -127,7 +127,8 @@ abbrev pub is_io : Answer → Bool
 is_io (Good bytes) = false
 is_io (Bad errno) = errno_number errno == 5
 
--- the port is the same one and saw more, in which its own acts are those of the requests; and it met a fault for each EIO
+-- the port is the same one and saw more, in which its own acts are those of the requests. It met a fault for each EIO, and
+-- none where there is no EIO
 pub record FitsHistory (takes : Bool) (old : PortState) (passed : List Passed) (answers : List Answer) (new : PortState) : Type 0 where
   pub base : new.base ≡ old.base
   pub first : new.first ≡ old.first
@@ -138,3 +139,4 @@ pub record FitsHistory (takes : Bool) (old : PortState) (passed : List Passed) (
   pub own : calls_by old.number more ≡ map (entry old.number) acts
   pub answered : AreAnswered takes old new [] passed answers acts
   pub faults : old.faults + count_by is_io answers ≤ new.faults
+  pub spared : count_by is_io answers ≡ 0 → new.faults ≡ old.faults

@@ -21,8 +21,8 @@ pub record Passed : Type 0 where
   pub job : Job
   pub bytes : List ℕ
 
--- a connection: the pieces that are sent, one for each message that is answered, the requests that are put to the port in
--- order, and the end; whether the bytes ended before a word that ends the connection; whether something was read behind
+-- a connection: the pieces that are sent, the greeting and then one for each message that is answered, the requests that
+-- are put to the port in order, and the end; whether the bytes ended before a word that ends the connection; whether something was read behind
 -- the message that the last piece answers; and the bytes behind the word that ends the connection
 pub record Talk : Type 0 where
   pub pieces : List (List ℕ)
@@ -138,9 +138,10 @@ options export n hello zero bytes answers = with_head (λ head. λ rest others. 
 options export n hello (suc left) bytes answers =
     with_head (after_option export n hello (options export n hello left) (transmission export n (2 ^ 62))) bytes answers
 
+-- a good word of the client is answered by no bytes
 abbrev pub after_hello : Export → ℕ → Option Hello → Rest
 after_hello export n None bytes answers = stop_at BadHello true bytes
-after_hello export n (Some hello) bytes answers = options export n hello 64 bytes answers
+after_hello export n (Some hello) bytes answers = front ([] ∷ []) [] (options export n hello 64 bytes answers)
 
 -- the client's first word, at most 64 options, and the requests
 unfoldable pub greeted : Export → ℕ → Rest

@@ -6,7 +6,7 @@ ghost use Rattle.flat_image.specs.declared.act.Act.{Act};
 ghost use Rattle.flat_image.specs.declared.act.Act.TheVariants as act;
 ghost use Rattle.nbd_wire.specs.Requests.{simple_reply_bytes};
 ghost use Rattle.nbd_session.specs.Replies.{answer_of};
-ghost use Rattle.nbd_session.specs.Fits.{ReadRefused, Flushed, Changes, Follows};
+ghost use Rattle.nbd_session.specs.Fits.{ReadRefused, Flushed, Changes, Follows, ChargesAnswer};
 
 use crate::errno::{Errno, errno_of};
 use flat_image::ImagePort;
@@ -25,10 +25,11 @@ pub(crate) fn read_reply<P: ImagePort>(
 ) -> Result<(), Errno>
     requires within { at + count ≤ (P.state port.old).base.sectors }
     requires size { length out.old ≡ 16 + 512 * count }
-    ensures { MatchResult result
+    ensures does { MatchResult result
         (λ _. (bytes : List ℕ) × (out.new ≡ simple_reply_bytes 0 cookie ++ bytes)
         × Reads (P.state port.old) (P.state port.new) at count bytes)
         (ReadRefused (P.state port.old) (P.state port.new) at count) }
+    ensures cause { ChargesAnswer (P.state port.old) (P.state port.new) (answer_of result) }
 {
     let (head, data) = out.split_at_mut(HEAD);
     match port.read(at, data) {
@@ -48,7 +49,9 @@ pub(crate) fn write_sectors<P: ImagePort>(
     fua: bool,
 ) -> Result<(), Errno>
     requires { IsWithin (P.state port.old).base.sectors at bytes.now }
-    ensures { Changes P.flush_takes_memory (P.state port.old) (P.state port.new) (act.Write at bytes.now) fua (answer_of result) }
+    ensures does { Changes P.flush_takes_memory (P.state port.old) (P.state port.new)
+        (act.Write at bytes.now) fua (answer_of result) }
+    ensures cause { ChargesAnswer (P.state port.old) (P.state port.new) (answer_of result) }
 {
     match port.write(at, bytes) {
         Ok(()) => flush_behind(port, fua),
@@ -64,7 +67,9 @@ pub(crate) fn zero_sectors<P: ImagePort>(
     fua: bool,
 ) -> Result<(), Errno>
     requires { at + count ≤ (P.state port.old).base.sectors }
-    ensures { Changes P.flush_takes_memory (P.state port.old) (P.state port.new) (act.Zero at count) fua (answer_of result) }
+    ensures does { Changes P.flush_takes_memory (P.state port.old) (P.state port.new)
+        (act.Zero at count) fua (answer_of result) }
+    ensures cause { ChargesAnswer (P.state port.old) (P.state port.new) (answer_of result) }
 {
     match port.zero(at, count) {
         Ok(()) => flush_behind(port, fua),
@@ -74,14 +79,16 @@ pub(crate) fn zero_sectors<P: ImagePort>(
 
 // The flush behind a change that was made.
 fn flush_behind<P: ImagePort>(port: &mut P, fua: bool) -> Result<(), Errno>
-    ensures { Follows P.flush_takes_memory (P.state port.old) (P.state port.new) fua (answer_of result) }
+    ensures does { Follows P.flush_takes_memory (P.state port.old) (P.state port.new) fua (answer_of result) }
+    ensures cause { ChargesAnswer (P.state port.old) (P.state port.new) (answer_of result) }
 {
     if fua { flush_all(port) } else { Ok(()) }
 }
 
 /// Flushes.
 pub(crate) fn flush_all<P: ImagePort>(port: &mut P) -> Result<(), Errno>
-    ensures { Flushed P.flush_takes_memory (P.state port.old) (P.state port.new) (answer_of result) }
+    ensures does { Flushed P.flush_takes_memory (P.state port.old) (P.state port.new) (answer_of result) }
+    ensures cause { ChargesAnswer (P.state port.old) (P.state port.new) (answer_of result) }
 {
     match port.flush() {
         Ok(()) => Ok(()),

@@ -14,7 +14,7 @@ use crate::served::Served;
 use byte_ports::{Sink, Source};
 use nbd_wire::{Hello, OptionHead, decode_hello, decode_option, hello_bytes};
 
-/// The most options that are answered.
+// The most options that are answered.
 const MOST_OPTIONS: u32 = 64;
 
 /// Greets the client and answers its options, up to where it may send requests. The image has

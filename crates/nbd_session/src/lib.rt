@@ -26,4 +26,6 @@ pub use session::serve_connection;
 #[cfg(test)]
 mod examples;
 #[cfg(test)]
+mod refusing_ports;
+#[cfg(test)]
 mod tests;

@@ -72,7 +72,7 @@ pub(crate) fn answer_short<B: Sink>(
         ABORT => say(sink, &option_reply(ABORT, ACK, 0), Phase::Aborted),
         LIST => {
             if count > 0 {
-                return refuse(sink, LIST, INVALID);
+                return refuse_option(sink, LIST, INVALID);
             }
             answer_list(export, buffer, sink)
         }
@@ -92,19 +92,20 @@ pub(crate) fn answer_short<B: Sink>(
             Phase::Transmission,
             sink,
         ),
-        _ => refuse(sink, option, UNSUPPORTED),
+        _ => refuse_option(sink, option, UNSUPPORTED),
     }
 }
 
 /// Answers an option whose data were too long and are gone.
 #[tactic(auto, unfolding(crate::specs::Options::long_answer))]
 pub(crate) fn answer_long<B: Sink>(option: u32, sink: &mut B) -> Result<Phase, Served>
-    ensures { Says (long_answer option) (B.written sink.old) (B.written sink.new) (B.faults sink.old) (B.faults sink.new) result }
+    ensures { Says (long_answer option)
+        (B.written sink.old) (B.written sink.new) (B.faults sink.old) (B.faults sink.new) result }
 {
     if option == EXPORT_NAME {
         return Ok(Phase::UnknownExport);
     }
-    refuse(sink, option, TOO_BIG)
+    refuse_option(sink, option, TOO_BIG)
 }
 
 // Sends all that is said to an option.
@@ -118,8 +119,9 @@ fn say<B: Sink>(sink: &mut B, said: &[u8], phase: Phase) -> Result<Phase, Served
     }
 }
 
-fn refuse<B: Sink>(sink: &mut B, option: u32, error: u32) -> Result<Phase, Served>
-    ensures { Says (refused option error) (B.written sink.old) (B.written sink.new) (B.faults sink.old) (B.faults sink.new) result }
+fn refuse_option<B: Sink>(sink: &mut B, option: u32, error: u32) -> Result<Phase, Served>
+    ensures { Says (refused option error)
+        (B.written sink.old) (B.written sink.new) (B.faults sink.old) (B.faults sink.new) result }
 {
     say(sink, &option_reply(option, error, 0), Phase::Options)
 }
@@ -145,7 +147,8 @@ fn answer_name<B: Sink>(
     sink: &mut B,
 ) -> Result<Phase, Served>
     requires { sectors ≤ 2 ^ 31 }
-    ensures { Says (name_answer export.now sectors hello name.now) (B.written sink.old) (B.written sink.new) (B.faults sink.old) (B.faults sink.new) result }
+    ensures { Says (name_answer export.now sectors hello name.now)
+        (B.written sink.old) (B.written sink.new) (B.faults sink.old) (B.faults sink.new) result }
 {
     if !is_named(export, name) {
         return Ok(Phase::UnknownExport);
@@ -160,7 +163,8 @@ fn answer_name<B: Sink>(
 
 fn answer_list<B: Sink>(export: &Export, buffer: &mut [u8], sink: &mut B) -> Result<Phase, Served>
     requires { length buffer.old ≡ 8192 }
-    ensures { Says (listed export.now) (B.written sink.old) (B.written sink.new) (B.faults sink.old) (B.faults sink.new) result }
+    ensures { Says (listed export.now)
+        (B.written sink.old) (B.written sink.new) (B.faults sink.old) (B.faults sink.new) result }
 {
     let count = write_list(export, buffer);
     say(sink, &buffer[..count], Phase::Options)
@@ -197,10 +201,10 @@ fn answer_info<B: Sink>(
         (B.written sink.old) (B.written sink.new) (B.faults sink.old) (B.faults sink.new) result }
 {
     let Some(name) = decode_info(items) else {
-        return refuse(sink, option, INVALID);
+        return refuse_option(sink, option, INVALID);
     };
     if !is_named(export, name) {
-        return refuse(sink, option, UNKNOWN);
+        return refuse_option(sink, option, UNKNOWN);
     }
     say(sink, &info_replies(option, sectors, flags(export)), phase)
 }
@@ -209,7 +213,8 @@ fn answer_info<B: Sink>(
 #[tactic(auto, unfolding(nbd_wire::specs::Infos::info_export_bytes, nbd_wire::specs::Infos::info_block_size_bytes))]
 fn info_replies(option: u32, sectors: u64, flags: u16) -> [u8; 86]
     requires { sectors ≤ 2 ^ 31 }
-    ensures { result ≡ with_data option 3 (info_export_bytes sectors flags) ++ with_data option 3 info_block_size_bytes ++ ack option }
+    ensures { result ≡ with_data option 3 (info_export_bytes sectors flags)
+        ++ with_data option 3 info_block_size_bytes ++ ack option }
 {
     let size: [u8; 32] = join(
         option_reply(option, INFO_REPLY, 12),

@@ -7,16 +7,17 @@ ghost use Rattle.nbd_session.specs.Sessions.{ends, Ended, GoesOn, IsIdle};
 use crate::buffers::Buffers;
 use crate::export::Export;
 use crate::job::{DISC, MOST_BYTES, data_length, job_of};
-use crate::jobs::{refuse, serve_job};
+use crate::jobs::{refuse_request, serve_job};
 use crate::reading::pull;
 use crate::served::Served;
 use byte_ports::{Sink, Source};
 use flat_image::ImagePort;
 use nbd_wire::{Request, decode_request};
 
-/// Reads the next request but for its data, or ends the connection.
+// Reads the next request but for its data, or ends the connection.
 fn read_request<A: Source>(source: &mut A) -> Result<Request, Served>
-    ensures { (takes : Bool) (export : Export) (n : ℕ) (go : Rest) (written : Option (List ℕ)) (writes : ℕ) (port : PortState)
+    ensures { (takes : Bool) (export : Export) (n : ℕ) (go : Rest)
+        (written : Option (List ℕ)) (writes : ℕ) (port : PortState)
         → GoesOn takes (one_request export n go) (after_request export n go)
         (ends (A.left source.old) (A.faults source.old) written writes port)
         (ends (A.left source.new) (A.faults source.new) written writes port) result }
@@ -35,7 +36,7 @@ fn read_request<A: Source>(source: &mut A) -> Result<Request, Served>
     }
 }
 
-/// Serves one request, or ends the connection.
+// Serves one request, or ends the connection.
 fn serve_request<A: Source, B: Sink, P: ImagePort>(
     export: &Export,
     source: &mut A,
@@ -46,7 +47,8 @@ fn serve_request<A: Source, B: Sink, P: ImagePort>(
     ensures { (go : Rest) → IsIdle go
         → GoesOn P.flush_takes_memory (one_request export.now (P.state port.old).base.sectors go) (λ _. go)
         (ends (A.left source.old) (A.faults source.old) (B.written sink.old) (B.faults sink.old) (P.state port.old))
-        (ends (A.left source.new) (A.faults source.new) (B.written sink.new) (B.faults sink.new) (P.state port.new)) result }
+        (ends (A.left source.new) (A.faults source.new) (B.written sink.new) (B.faults sink.new)
+        (P.state port.new)) result }
 {
     let request = read_request(source)?;
     if request.command == DISC {
@@ -57,7 +59,7 @@ fn serve_request<A: Source, B: Sink, P: ImagePort>(
     }
     match job_of(export, port.sectors(), &request) {
         Ok(job) => serve_job(source, sink, port, buffers, &request, job),
-        Err(errno) => refuse(source, sink, buffers, &request, errno),
+        Err(errno) => refuse_request(source, sink, buffers, &request, errno),
     }
 }
 
@@ -71,11 +73,12 @@ pub(crate) fn serve_requests<A: Source, B: Sink, P: ImagePort>(
 ) -> Served
     ensures { Ended P.flush_takes_memory (transmission export.now (P.state port.old).base.sectors (2 ^ 62))
         (ends (A.left source.old) (A.faults source.old) (B.written sink.old) (B.faults sink.old) (P.state port.old))
-        (ends (A.left source.new) (A.faults source.new) (B.written sink.new) (B.faults sink.new) (P.state port.new)) result }
+        (ends (A.left source.new) (A.faults source.new) (B.written sink.new) (B.faults sink.new)
+        (P.state port.new)) result }
 {
     for number in 0..1u64 << 62 {
         match serve_request(export, source, sink, port, buffers) {
-            Ok(()) => {}
+            Ok(()) => buffers.give_up_large(),
             Err(end) => return end,
         }
     }

@@ -23,7 +23,8 @@ pub(crate) fn reply<B: Sink>(
     cookie: u64,
     answer: Result<(), Errno>,
 ) -> Result<(), Served>
-    ensures { Sends (B.written sink.old) (B.written sink.new) (B.faults sink.old) (B.faults sink.new) (reply_of cookie (answer_of answer)) result }
+    ensures { Sends (B.written sink.old) (B.written sink.new) (B.faults sink.old) (B.faults sink.new)
+        (reply_of cookie (answer_of answer)) result }
 {
     match answer {
         Ok(()) => send(sink, &simple_reply(0, cookie)),

@@ -22,7 +22,8 @@ pub fn serve_connection<A: Source, B: Sink, P: ImagePort>(
 ) -> Served
     ensures { Serves P.flush_takes_memory (talk export.now (P.state port.old).base.sectors)
         (ends (A.left source.old) (A.faults source.old) (B.written sink.old) (B.faults sink.old) (P.state port.old))
-        (ends (A.left source.new) (A.faults source.new) (B.written sink.new) (B.faults sink.new) (P.state port.new)) result }
+        (ends (A.left source.new) (A.faults source.new) (B.written sink.new) (B.faults sink.new)
+        (P.state port.new)) result }
 {
     match Buffers::new(alloc) {
         Ok(buffers) => serve_with(export, source, sink, port, buffers),
@@ -39,7 +40,8 @@ fn serve_with<A: Source, B: Sink, P: ImagePort>(
 ) -> Served
     ensures { Ended P.flush_takes_memory (talk export.now (P.state port.old).base.sectors)
         (ends (A.left source.old) (A.faults source.old) (B.written sink.old) (B.faults sink.old) (P.state port.old))
-        (ends (A.left source.new) (A.faults source.new) (B.written sink.new) (B.faults sink.new) (P.state port.new)) result }
+        (ends (A.left source.new) (A.faults source.new) (B.written sink.new) (B.faults sink.new)
+        (P.state port.new)) result }
 {
     let mut buffers = buffers;
     match shake_hands(

@@ -1,11 +1,13 @@
 use super::*;
+use crate::refusing_ports::{FullPort, WornPort};
 use byte_ports::{MemSink, MemSource};
-use flat_image::PlainPort;
+use flat_image::{ImagePort, PlainPort};
 use sector_extent::{Bytes, CallList};
 use std::alloc::{AllocError, Global};
+use std::process::Abort;
 use std::test::Fail;
 
-/// The client's word, GO with an empty name, READ of 512 bytes at 0, and DISC.
+// The client's word, GO with an empty name, READ of 512 bytes at 0, and DISC.
 const ONE_READ: [u8; 82] = [
     0, 0, 0, 3, 0x49, 0x48, 0x41, 0x56, 0x45, 0x4F, 0x50, 0x54, 0, 0, 0, 7, 0, 0, 0, 6, 0, 0, 0, 0,
     0, 0, 0x25, 0x60, 0x95, 0x13, 0, 0, 0, 0, 0, 0, 0, 0, 0, 0, 0, 1, 0, 0, 0, 0, 0, 0, 0, 0, 0, 0,
@@ -13,7 +15,7 @@ const ONE_READ: [u8; 82] = [
     0, 0,
 ];
 
-/// What is sent to it, but for the 512 zeros at the end.
+// What is sent to it, but for the 512 zeros at the end.
 const ONE_READ_REPLIES: [u8; 120] = [
     0x4E, 0x42, 0x44, 0x4D, 0x41, 0x47, 0x49, 0x43, 0x49, 0x48, 0x41, 0x56, 0x45, 0x4F, 0x50, 0x54,
     0, 3, 0, 3, 0xE8, 0x89, 4, 0x55, 0x65, 0xA9, 0, 0, 0, 7, 0, 0, 0, 3, 0, 0, 0, 0x0C, 0, 0, 0, 0,
@@ -22,21 +24,41 @@ const ONE_READ_REPLIES: [u8; 120] = [
     0, 0, 7, 0, 0, 0, 1, 0, 0, 0, 0, 0x67, 0x44, 0x66, 0x98, 0, 0, 0, 0, 0, 0, 0, 0, 0, 0, 0, 1,
 ];
 
-/// How many bytes are sent before the first reply to a request.
+// How many bytes are sent before the first reply to a request.
 const GREETED: usize = 104;
 
 fn calls(alloc: Global, failing: &[u64]) -> Result<CallList, AllocError> {
     Ok(CallList::from_vec(Vec::from_slice(alloc, failing)?))
 }
 
-/// How a connection ended, and what was sent.
+// How a connection ended, and what was sent.
 #[derive(Drop)]
 struct Ran {
     end: Served,
     out: Bytes,
 }
 
-/// Serves one connection over four sectors of zeros, where these calls of source, sink and port fail.
+// Serves one connection over that port, where these calls of source and sink fail.
+fn run_over<P: ImagePort>(
+    alloc: Global,
+    read_only: bool,
+    input: Vec<u8>,
+    reads: &[u64],
+    writes: &[u64],
+    port: &mut P,
+) -> Result<Ran, Fail> {
+    let mut source = MemSource::new(Bytes::from_vec(input), calls(alloc, reads)?);
+    let mut sink = MemSink::new(alloc, calls(alloc, writes)?);
+    let Some(name) = NameBytes::from_vec(Vec::from_slice(alloc, b"img")?) else {
+        return Err(Fail::new("the name is too long"));
+    };
+    let export = Export { name, read_only };
+    let end = serve_connection(alloc, &export, &mut source, &mut sink, port);
+    let out = sink.into_bytes();
+    Ok(Ran { end, out })
+}
+
+// Serves one connection over four sectors of zeros, where these calls of source, sink and port fail.
 fn run(
     alloc: Global,
     read_only: bool,
@@ -45,17 +67,9 @@ fn run(
     writes: &[u64],
     asked: &[u64],
 ) -> Result<Ran, Fail> {
-    let bytes = Bytes::from_vec(Vec::from_slice(alloc, input)?);
-    let mut source = MemSource::new(bytes, calls(alloc, reads)?);
-    let mut sink = MemSink::new(alloc, calls(alloc, writes)?);
+    let input = Vec::from_slice(alloc, input)?;
     let mut port = PlainPort::new(alloc, 4, calls(alloc, asked)?)?;
-    let Some(name) = NameBytes::from_vec(Vec::from_slice(alloc, b"img")?) else {
-        return Err(Fail::new("the name is too long"));
-    };
-    let export = Export { name, read_only };
-    let end = serve_connection(alloc, &export, &mut source, &mut sink, &mut port);
-    let out = sink.into_bytes();
-    Ok(Ran { end, out })
+    run_over(alloc, read_only, input, reads, writes, &mut port)
 }
 
 #[test]
@@ -90,7 +104,7 @@ fn request(flags: u8, command: u8, offset: u16, length: u32) -> [u8; 28] {
     ]
 }
 
-/// A greeted connection with this request, so many bytes of data, and DISC.
+// A greeted connection with this request, so many bytes of data, and DISC.
 fn with_request(alloc: Global, head: [u8; 28], data: u16) -> Result<Vec<u8>, AllocError> {
     let mut input = Vec::from_slice(alloc, &ONE_READ[..26])?;
     input.extend_from_slice(&head)?;
@@ -113,6 +127,7 @@ fn each_request_gets_the_error_of_its_first_check(rt: HostRuntime) -> Result<(),
         (request(3, 6, 512, 1024), 0, false, 0),
         (request(0, 4, 0, 4096), 0, false, 22),
         (request(0, 3, 7, 7), 0, false, 0),
+        (request(0, 1, 0, 16_384), 16_384, false, 28),
     ];
     for (head, data, read_only, error) in cases {
         let input = with_request(rt.alloc(), head, data)?;
@@ -130,9 +145,10 @@ fn each_request_gets_the_error_of_its_first_check(rt: HostRuntime) -> Result<(),
     Ok(())
 }
 
-fn option(number: u8, length: u8) -> [u8; 16] {
+fn option(number: u8, length: u16) -> [u8; 16] {
+    let [high, low] = length.to_be_bytes();
     [
-        0x49, 0x48, 0x41, 0x56, 0x45, 0x4F, 0x50, 0x54, 0, 0, 0, number, 0, 0, 0, length,
+        0x49, 0x48, 0x41, 0x56, 0x45, 0x4F, 0x50, 0x54, 0, 0, 0, number, 0, 0, high, low,
     ]
 }
 
@@ -189,6 +205,118 @@ fn faults_are_told_apart(rt: HostRuntime) -> Result<(), Fail> {
     assert_eq!(rt;
         ran.out.as_slice().get(GREETED + 4..GREETED + 8),
         Some([0, 0, 0, 5].as_slice())
+    );
+    Ok(())
+}
+
+// Replies to a request by a port that refuses, with this error, to READ, WRITE, TRIM and FLUSH.
+fn refused_by<P: ImagePort>(
+    rt: &impl Abort,
+    alloc: Global,
+    port: &mut P,
+    errors: [u8; 4],
+) -> Result<(), Fail> {
+    let heads = [
+        request(0, 0, 0, 512),
+        request(0, 1, 0, 512),
+        request(0, 4, 512, 1024),
+        request(0, 3, 0, 0),
+    ];
+    for (head, error) in heads.into_iter().zip(errors) {
+        let data = if head[7] == 1 { 512 } else { 0 };
+        let input = with_request(alloc, head, data)?;
+        let ran = run_over(alloc, false, input, &[], &[], port)?;
+        assert_eq!(rt; ran.end, Served::Done);
+        assert_eq!(rt;
+            ran.out.as_slice().get(GREETED + 4..GREETED + 8),
+            Some([0, 0, 0, error].as_slice()),
+            "{head:?}"
+        );
+    }
+    Ok(())
+}
+
+#[test]
+fn what_the_port_refuses_is_refused(rt: HostRuntime) -> Result<(), Fail> {
+    refused_by(&rt, rt.alloc(), &mut FullPort, [12, 28, 28, 12])?;
+    refused_by(&rt, rt.alloc(), &mut WornPort, [108; 4])
+}
+
+#[test]
+fn options_are_answered(rt: HostRuntime) -> Result<(), Fail> {
+    let cases = [
+        (3, 6, b"".as_slice(), 6, Served::Truncated, 86, [0, 3]),
+        (
+            3,
+            6,
+            b"\0\0\0\x03img".as_slice(),
+            9,
+            Served::Truncated,
+            86,
+            [0, 3],
+        ),
+        (
+            3,
+            6,
+            b"\0\0\0\x01x".as_slice(),
+            7,
+            Served::Truncated,
+            20,
+            [0x80, 6],
+        ),
+        (3, 6, b"".as_slice(), 8193, Served::Truncated, 20, [0x80, 9]),
+        (3, 3, b"".as_slice(), 1, Served::Truncated, 20, [0x80, 3]),
+        (3, 1, b"".as_slice(), 8193, Served::UnknownExport, 0, [0, 0]),
+        (3, 1, b"img".as_slice(), 3, Served::Done, 10, [0, 0]),
+        (1, 1, b"img".as_slice(), 3, Served::Done, 134, [0, 0]),
+    ];
+    for (flags, number, data, length, end, sent, kind) in cases {
+        let mut input = Vec::from_slice(rt.alloc(), &[0, 0, 0, flags])?;
+        input.extend_from_slice(&option(number, length))?;
+        input.extend_from_slice(data)?;
+        input.resize(20 + usize::from(length), 0)?;
+        let ran = run(rt.alloc(), false, input.as_slice(), &[], &[], &[])?;
+        let out = ran.out.as_slice();
+        assert_eq!(rt; ran.end, end, "{number} {length}");
+        assert_eq!(rt; out.len(), 18 + sent, "{number} {length}");
+        if number != 1 {
+            let [high, low] = kind;
+            assert_eq!(rt;
+                out.get(30..34),
+                Some([high, 0, 0, low].as_slice()),
+                "{number} {length}"
+            );
+        }
+    }
+    Ok(())
+}
+
+// So many bytes, which are not zero and differ from sector to sector.
+fn pattern(alloc: Global, count: u32) -> Result<Vec<u8>, AllocError> {
+    let mut bytes = Vec::with_capacity(alloc, count as usize)?;
+    for place in 0..count {
+        bytes.push((place % 251) as u8 + 1)?;
+    }
+    Ok(bytes)
+}
+
+#[test]
+fn the_longest_write_is_read_back(rt: HostRuntime) -> Result<(), Fail> {
+    let data = pattern(rt.alloc(), 33_554_432)?;
+    let mut input = Vec::from_slice(rt.alloc(), &ONE_READ[..26])?;
+    input.extend_from_slice(&request(0, 1, 0, 33_554_432))?;
+    input.extend_from_slice(data.as_slice())?;
+    input.extend_from_slice(&request(0, 0, 0, 33_554_432))?;
+    input.extend_from_slice(&ONE_READ[54..])?;
+    let mut port = PlainPort::new(rt.alloc(), 65_536, calls(rt.alloc(), &[])?)?;
+    // The greeting, the answer to GO and one call for each reply.
+    let ran = run_over(rt.alloc(), false, input, &[], &[4], &mut port)?;
+    assert_eq!(rt; ran.end, Served::Done);
+    let out = ran.out.as_slice();
+    assert_eq!(rt; out.len(), GREETED + 16 + 16 + 33_554_432);
+    assert!(rt;
+        out.get(GREETED + 32..) == Some(data.as_slice()),
+        "other data"
     );
     Ok(())
 }

@@ -3,7 +3,7 @@ use Rattle.std.specs.Prelude.{nat_lt}
 use Rattle.std.proofs.lemmas.Result.{err_from_is_err_and}
 use Rattle.nbd_session.specs.declared.served.Served.TheVariants.{BadHello}
 use Rattle.nbd_session.specs.Talks.{greeted, options, after_hello}
-use Rattle.nbd_session.proofs.Steps.{went_read, ended_word, ended_cut}
+use Rattle.nbd_session.proofs.Steps.{went_unanswered, ended_word, ended_cut}
 use Rattle.nbd_session.proofs.Greetings.{greeted-whole, greeted-all, greeted-short}
 use Rattle.nbd_session.proofs.handshake.read_hello.Goals as goal
 
@@ -19,7 +19,7 @@ pub returns-in-Some : goal.returns-in-Some
 returns-in-Some g c = λ takes export n written faults port.
     let bytes = c.fill.new.out in
     let long : length c.fill.new.out ≡ 4 = search rules in
-    went_read (greeted export n) (options export n c.in-Some.hello 64) (g.A.Source.left c.args.source.now) (g.A.Source.left c.fill.new.source) _ _ written faults port bytes
+    went_unanswered (greeted export n) (options export n c.in-Some.hello 64) (g.A.Source.left c.args.source.now) (g.A.Source.left c.fill.new.source) _ _ written faults port bytes
     c.in_ok-fill.ensures.0 c.in_ok-fill.ensures.1
     (λ more others. greeted-whole export n bytes more others long ∙ ap (λ o. after_hello export n o more others) (sym c.in-Some.ensures.reads))
 

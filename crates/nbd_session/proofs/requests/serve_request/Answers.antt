@@ -48,7 +48,7 @@ returns-in-Err g c = λ go idle.
     let port = g.P.ImagePort.state c.args.port.now in
     let first = c.in_ok-request.ensures g.P.ImagePort.flush_takes_memory c.args.export.now port.base.sectors go (B.written c.args.sink.now) (B.faults c.args.sink.now) port in
     let short : data_length c.in_ok-request.request ≤ 33554432 = omega (arith, c.data_length.ensures) in
-    refusal_on g.P.ImagePort.flush_takes_memory c.args.export.now port.base.sectors go c.in_ok-request.request (λ _. go) _ _ _ c.refuse.result c.in-Err.errno
+    refusal_on g.P.ImagePort.flush_takes_memory c.args.export.now port.base.sectors go c.in_ok-request.request (λ _. go) _ _ _ c.refuse_request.result c.in-Err.errno
     first c.if-request-eq-DISC.false short
     (ap (λ n. job_of c.args.export.now n c.in_ok-request.request) (sym c.sectors.ensures.sectors) ∙ (sym c.job_of.ensures.table ∙ c.in-Err.is))
-    (c.refuse.ensures g.P.ImagePort.flush_takes_memory go port idle)
+    (c.refuse_request.ensures g.P.ImagePort.flush_takes_memory go port idle)
