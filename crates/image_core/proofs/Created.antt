@@ -26,7 +26,8 @@ use Rattle.image_core.specs.Manifest.{Names}
 use Rattle.image_core.specs.Shows.{AreHeadsOf, AreStack, IsSound}
 use Rattle.image_core.specs.View.{AreLayersOf}
 use Rattle.image_core.specs.Pieces.{IsSnapshotOf}
-use Rattle.image_core.specs.Parts.{ImageStands}
+use Rattle.image_core.specs.Seen.{Seen, StandsFor}
+use Rattle.image_core.specs.Loading.{heads_in, upper_uuid}
 use Rattle.image_core.specs.Creating.{AreLegal, fresh_at}
 use Rattle.image_core.proofs.Lifts.{kept-one}
 use Rattle.image_core.proofs.SheetsRead.{layers-length}
@@ -36,56 +37,37 @@ use Rattle.image_core.proofs.StepGoes.{not-manifest}
 pub layer-file : (file : List ℕ) (layer : LayerIndex) → LayerOf file layer.head layer.rows → LayerFile file layer.head (sheet_of file layer.head.sectors layer.rows)
 layer-file file layer is = record { rows = layer.rows; layer = is; sheet_is = refl }
 
--- the uuid of the uppermost file is that of the uppermost layer
-upper-uuid : (files : List (List ℕ)) (layers : List LayerIndex) (i : ℕ) (d : LayerIndex) → suc i ≡ length layers → AreLayersOf files layers
-    → top_uuid files ≡ (slice_index_or layers i d).head.uuid
-upper-uuid [] [] i d last are = absurd (omega (arith, last))
-upper-uuid [] (layer ∷ layers) i d last are = absurd are
-upper-uuid (file ∷ files) [] i d last are = absurd are
-upper-uuid (file ∷ []) (layer ∷ []) i d last are =
-    uuid_in-layer file layer.head (sheet_of file layer.head.sectors layer.rows) (layer-file file layer are.0)
-    ∙ sym (ap (λ (l : LayerIndex). l.head.uuid) (get_or_head layer [] i d (omega (arith, last))))
-upper-uuid (file ∷ []) (layer ∷ next ∷ layers) i d last are = absurd are.1
-upper-uuid (file ∷ next ∷ files) (layer ∷ []) i d last are = absurd are.1
-upper-uuid (file ∷ next ∷ files) (layer ∷ above ∷ layers) zero d last are = absurd (omega (arith, last))
-upper-uuid (file ∷ next ∷ files) (layer ∷ above ∷ layers) (suc i) d last are = upper-uuid (next ∷ files) (above ∷ layers) i d (omega (arith, last)) are.1
-
-pub files-parent : (files : List (List ℕ)) (layers : List LayerIndex) (parent : List ℕ) → AreLayersOf files layers → (length layers ≡ 0 → parent ≡ nil)
-    → ((d : LayerIndex) (i : ℕ) → i + 1 ≡ length layers → parent ≡ (slice_index_or layers i d).head.uuid) → parent ≡ top_uuid files
-files-parent [] [] parent are none some = none refl
-files-parent [] (layer ∷ layers) parent are none some = absurd are
-files-parent (file ∷ files) [] parent are none some = absurd are
-files-parent (file ∷ files) (layer ∷ layers) parent are none some =
-    some layer (length layers) (omega arith) ∙ sym (upper-uuid (file ∷ files) (layer ∷ layers) (length layers) layer refl are)
+-- the uuid of the uppermost layer is that of the uppermost file
+pub same-upper : (files : List (List ℕ)) (layers : List LayerIndex) → AreLayersOf files layers → upper_uuid layers ≡ top_uuid files
+same-upper [] [] are = refl
+same-upper [] (layer ∷ layers) are = absurd are
+same-upper (file ∷ files) [] are = absurd are
+same-upper (file ∷ []) (layer ∷ []) are = sym (uuid_in-layer file layer.head (sheet_of file layer.head.sectors layer.rows) (layer-file file layer are.0))
+same-upper (file ∷ []) (layer ∷ next ∷ layers) are = absurd are.1
+same-upper (file ∷ next ∷ files) (layer ∷ []) are = absurd are.1
+same-upper (file ∷ next ∷ files) (layer ∷ above ∷ layers) are = same-upper (next ∷ files) (above ∷ layers) are.1
 
 -- the files have the heads of the layers
-heads-of : (n : ℕ) (files : List (List ℕ)) (layers : List LayerIndex) → AreLayersOf files layers → All (λ layer. layer.head.sectors ≡ n) layers
-    → AreHeadsOf n files (map (λ (l : LayerIndex). l.head) layers)
-heads-of n [] [] are sizes = tt
-heads-of n [] (layer ∷ layers) are sizes = absurd are
-heads-of n (file ∷ files) [] are sizes = absurd are
-heads-of n (file ∷ files) (layer ∷ layers) are sizes = (
-  record {
-    sheet = sheet_of file layer.head.sectors layer.rows;
-    layer = layer-file file layer are.0;
-    size = All-head (λ (l : LayerIndex). l.head.sectors ≡ n) layer layers sizes;
-  },
-  heads-of n files layers are.1 (All-tail (λ (l : LayerIndex). l.head.sectors ≡ n) layer layers sizes),
-)
+heads-of : (files : List (List ℕ)) (layers : List LayerIndex) → AreLayersOf files layers → AreHeadsOf files (heads_in layers)
+heads-of [] [] are = tt
+heads-of [] (layer ∷ layers) are = absurd are
+heads-of (file ∷ files) [] are = absurd are
+heads-of (file ∷ files) (layer ∷ layers) are =
+    (record { sheet = sheet_of file layer.head.sectors layer.rows; layer = layer-file file layer are.0 }, heads-of files layers are.1)
 
 module _ (n : ℕ) (files : List (List ℕ)) (layers : List LayerIndex) (faults : ℕ) (legal : AreLegal n layers) (size : IsSize n) (are : AreLayersOf files layers) where
   abbrev base : Base
   base = fresh_at n files faults
 
-  heads : AreHeadsOf n files (map (λ (l : LayerIndex). l.head) layers)
-  heads = heads-of n files layers are legal.sizes
+  heads : AreHeadsOf files (heads_in layers)
+  heads = heads-of files layers are
 
   pub fresh-sound : IsSound (fresh_at n files faults)
   fresh-sound = record {
     size = size;
     few = omega (arith, legal.few, layers-length files layers are);
     stack = subst (AreStack n) (sym (append-nil files))
-        (record { heads = map (λ (l : LayerIndex). l.head) layers; are = heads; legal = λ some. legal.legal (omega (arith, some, layers-length files layers are)) });
+        (record { heads = heads_in layers; are = heads; sizes = legal.sizes; legal = λ some. legal.legal (omega (arith, some, layers-length files layers are)) });
     unlike = tt;
   }
 
@@ -93,21 +75,18 @@ module _ (n : ℕ) (files : List (List ℕ)) (layers : List LayerIndex) (faults 
   fresh-base = record {
     top_is = record { some = size.0; few = size.1; count = length-replicate n Hole; cells = All-replicate IsCell n Hole tt };
     frozen_is = tt;
-    layers = subst (All (IsLayerFile n)) (sym (append-nil files)) (heads-layers n files (map (λ (l : LayerIndex). l.head) layers) heads);
+    layers = subst (All (IsLayerFile n)) (sym (append-nil files)) (heads-layers n files (heads_in layers) heads legal.sizes);
   }
 
   -- the parts of a new image, of which the mark was made last
   pub created : (tells : Bool) (mid disk : DiskState) (p : Parts) (parent body : List ℕ) (slice : List LayerIndex) → slice ≡ layers → p.lowers ≡ layers → p.steps ≡ 0
-      → IsSnapshotOf (arc_value p.snapshot) layers [] → (length slice ≡ 0 → parent ≡ nil)
-      → ((d : LayerIndex) (i : ℕ) → i + 1 ≡ length slice → parent ≡ (slice_index_or slice i d).head.uuid)
+      → IsSnapshotOf (arc_value p.snapshot) layers [] → parent ≡ upper_uuid slice
       → TopFits tells mid n (Some parent) p.top (fresh_stand n) (fresh_stand n ∷ []) → epoch_of p.top ≡ 0 → sequence_of p.top ≡ 1
       → Spares (λ f. f ≡ manifest_file) mid disk → file_of p.manifest ≡ manifest_file → sequence_in p.manifest ≡ 1 → IsKept disk p.manifest
       → ((b : List ℕ) → MayHold p.manifest b → b ≡ body) → Names body 0 None n
-      → ImageStands tells disk faults p (fresh_at n files faults) []
-  created tells mid disk p parent body slice same lowers steps snapshot none some top epoch sequence spares file made kept bodies names =
-      let uppermost : parent ≡ top_uuid files =
-      files-parent files layers parent are (λ empty. none (ap (length {A = LayerIndex}) same ∙ empty))
-      (λ d i last. some d i (last ∙ sym (ap (length {A = LayerIndex}) same)) ∙ ap (λ (l : List LayerIndex). (slice_index_or l i d).head.uuid) same) in
+      → StandsFor (record { tells = tells; state = disk; faults = faults; parts = p }) (fresh_at n files faults) []
+  created tells mid disk p parent body slice same lowers steps snapshot parent_is top epoch sequence spares file made kept bodies names =
+      let uppermost : parent ≡ top_uuid files = parent_is ∙ (ap upper_uuid same ∙ same-upper files layers are) in
       let fits : TopFits tells disk n (Some parent) p.top (fresh_stand n) (fresh_stand n ∷ []) =
       fits_spared tells mid disk n (Some parent) p.top (fresh_stand n) (fresh_stand n ∷ []) (λ f. f ≡ manifest_file) spares (λ f of_top is. not-manifest (epoch_of p.top) f is of_top) top in
       record {

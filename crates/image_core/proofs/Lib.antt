@@ -1,9 +1,11 @@
+pub mod FaultCounts
 pub mod BlankLayers
 pub mod Created
 pub mod FilesShown
 pub mod FilledSectors
 pub mod Lifts
 pub mod Loaded
+pub mod MadeLast
 pub mod ManifestBodies
 pub mod Named
 pub mod PartsHold

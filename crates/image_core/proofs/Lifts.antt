@@ -6,23 +6,22 @@ use Rattle.block_disk.specs.DiskState.{DiskState}
 use Rattle.flat_image.specs.declared.act.Act.{Act}
 use Rattle.flat_image.specs.declared.act.Act.TheVariants.{Fault}
 use Rattle.flat_image.specs.declared.act.Asked.{Asked}
-use Rattle.flat_image.specs.declared.act.Asked.TheVariants.{Uuid}
 use Rattle.flat_image.specs.declared.base.Base.{Base}
 use Rattle.flat_image.specs.Base.{IsBase, HasFewStretches}
 use Rattle.flat_image.specs.Entries.{entry}
 use Rattle.flat_image.specs.History.{History, now, step, keeps, is_fault, fault_count, Allowed, HasRoom}
-use Rattle.flat_image.specs.Left.{Stand, stand, put_top, moves_layers, Blamed, Advances, Left}
+use Rattle.flat_image.specs.Left.{Stand, stand, put_top, ends_blame, Blamed, Advances, Left}
 use Rattle.flat_image.proofs.HistoryLaws.{now-entry, proper-entry, proper-room, base-stays, fault_count-append}
 use Rattle.flat_image.proofs.LeftLaws.{Kept-all, Kept-entry, Blamed-entry, Blamed-last}
 use Rattle.image_core.specs.View.{ImageView}
-use Rattle.image_core.specs.MayBe.{MayBe, ShowsMayBe, KeptStand, BlamedFor}
+use Rattle.image_core.specs.MayBe.{MayBe, ShowsMayBe, KeptStand}
 use Rattle.image_core.specs.Keeping.{HoldsAs, KeepsFor}
 use Rattle.image_core.specs.Laws.{KeepsStands}
 use Rattle.image_core.proofs.FilesShown.{files-shown}
 
 -- what may be is what the history leaves, where its tops are kept and what was tried is to blame
-pub left-of : (base : Base) (history : History) (tops : List Stand) (attempts : List (List ℕ)) (c : Base)
-    → All (KeptStand base history) tops → All (BlamedFor history) attempts → MayBe (now base history) tops attempts c → Left base history c
+pub left-of : (base : Base) (history : History) (tops : List Stand) (attempts : List Asked) (c : Base)
+    → All (KeptStand base history) tops → All (Blamed history) attempts → MayBe (now base history) tops attempts c → Left base history c
 left-of base history tops attempts c kept blamed may =
     let top : KeptStand base history may.top = All-contains (KeptStand base history) tops may.top kept may.among in
     record {
@@ -31,7 +30,7 @@ left-of base history tops attempts c kept blamed may =
       is = subst (λ s. let b = put_top (now base history) s in (c ≡ b) ⊎ ((asked : Asked) × Blamed history asked × Advances b asked c)) top.is
           (elim may.is [
             | inl is ↦ inl is
-            | inr other ↦ inr (Uuid other.0, All-contains (BlamedFor history) attempts other.0 blamed other.1, other.2)
+            | inr other ↦ inr (other.0, All-contains (Blamed history) attempts other.0 blamed other.1, other.2)
           ]);
     }
 
@@ -59,10 +58,10 @@ kept-more base history tops number act is kept =
     All-weaker (KeptStand base history) (KeptStand base (history ++ entry number act ∷ []))
     (λ s k. record { front = k.front; kept = Kept-entry history k.front number act is k.kept; is = k.is }) tops kept
 
-pub blamed-more : (history : History) (attempts : List (List ℕ)) (number : ℕ) (act : Act) → moves_layers act ≡ false
-    → All (BlamedFor history) attempts → All (BlamedFor (history ++ entry number act ∷ [])) attempts
+pub blamed-more : (history : History) (attempts : List Asked) (number : ℕ) (act : Act) → ends_blame act ≡ false
+    → All (Blamed history) attempts → All (Blamed (history ++ entry number act ∷ [])) attempts
 blamed-more history attempts number act is blamed =
-    All-weaker (BlamedFor history) (BlamedFor (history ++ entry number act ∷ [])) (λ uuid b. Blamed-entry history (Uuid uuid) number act is b) attempts blamed
+    All-weaker (Blamed history) (Blamed (history ++ entry number act ∷ [])) (λ asked b. Blamed-entry history asked number act is b) attempts blamed
 
 -- the top as it stands is kept, and alone it is after an act that keeps
 pub kept-now : (base : Base) (history : History) → KeptStand base history (stand (now base history))
@@ -77,12 +76,12 @@ pub kept-too : (base : Base) (history : History) (s : Stand) (tops : List Stand)
 kept-too base history s tops is kept =
     All-cons (KeptStand base history) s tops (record { front = history; kept = Kept-all history; is = is }) kept
 
--- a failed freeze or seal is to blame, and alone it is where the last one before it was made
-pub blamed-too : (history : History) (attempts : List (List ℕ)) (number : ℕ) (uuid : List ℕ) → All (BlamedFor history) attempts
-    → All (BlamedFor (history ++ entry number (Fault (Uuid uuid)) ∷ [])) (uuid ∷ attempts)
-blamed-too history attempts number uuid blamed =
-    let h : History = history ++ entry number (Fault (Uuid uuid)) ∷ [] in
-    All-cons (BlamedFor h) uuid attempts (Blamed-last history (Uuid uuid) number) (blamed-more history attempts number (Fault (Uuid uuid)) refl blamed)
+-- a step that failed is to blame
+pub blamed-too : (history : History) (attempts : List Asked) (number : ℕ) (asked : Asked) → All (Blamed history) attempts
+    → All (Blamed (history ++ entry number (Fault asked) ∷ [])) (asked ∷ attempts)
+blamed-too history attempts number asked blamed =
+    let h : History = history ++ entry number (Fault asked) ∷ [] in
+    All-cons (Blamed h) asked attempts (Blamed-last history asked number) (blamed-more history attempts number (Fault asked) refl blamed)
 
 -- the faults of one more entry
 pub fault-entry : (history : History) (number : ℕ) (act : Act) → is_fault act ≡ false → fault_count (history ++ entry number act ∷ []) ≡ fault_count history
@@ -94,10 +93,10 @@ fault-more history number asked = fault_count-append history (entry number (Faul
 -- An image that keeps what it needs for a history keeps it for one with an act more that is no fault, where it is then
 -- as the act makes it: the whole of a step but for its files.
 pub keeps-act : (tells : Bool) (old new : DiskState) (faults later : ℕ) (v w : ImageView) (base : Base) (history : History) (number : ℕ) (act : Act)
-    (tops : List Stand) (attempts : List (List ℕ)) → KeepsFor tells old faults v base history → Allowed (now base history) act
+    (tops : List Stand) (attempts : List Asked) → KeepsFor tells old faults v base history → Allowed (now base history) act
     → HasRoom (step (now base history) act).rows (step (now base history) act).filled → is_fault act ≡ false → faults ≤ later → w.steps ≡ v.steps + 1
     → HoldsAs tells new w (step (now base history) act) tops attempts
-    → All (KeptStand base (history ++ entry number act ∷ [])) tops → All (BlamedFor (history ++ entry number act ∷ [])) attempts
+    → All (KeptStand base (history ++ entry number act ∷ [])) tops → All (Blamed (history ++ entry number act ∷ [])) attempts
     → KeepsFor tells new later w base (history ++ entry number act ∷ [])
 keeps-act tells old new faults later v w base history number act tops attempts k may room clean rise steps holds kept blamed = record {
   base_is = k.base_is;
@@ -114,9 +113,9 @@ keeps-act tells old new faults later v w base history number act tops attempts k
 
 -- and for one with a fault more, where the count rose
 pub keeps-fault : (tells : Bool) (old new : DiskState) (faults later : ℕ) (v w : ImageView) (base : Base) (history : History) (number : ℕ) (asked : Asked)
-    (tops : List Stand) (attempts : List (List ℕ)) → KeepsFor tells old faults v base history → faults + 1 ≤ later → w.steps ≡ v.steps + 1
+    (tops : List Stand) (attempts : List Asked) → KeepsFor tells old faults v base history → faults + 1 ≤ later → w.steps ≡ v.steps + 1
     → HoldsAs tells new w (now base history) tops attempts
-    → All (KeptStand base (history ++ entry number (Fault asked) ∷ [])) tops → All (BlamedFor (history ++ entry number (Fault asked) ∷ [])) attempts
+    → All (KeptStand base (history ++ entry number (Fault asked) ∷ [])) tops → All (Blamed (history ++ entry number (Fault asked) ∷ [])) attempts
     → KeepsFor tells new later w base (history ++ entry number (Fault asked) ∷ [])
 keeps-fault tells old new faults later v w base history number asked tops attempts k rise steps holds kept blamed = record {
   base_is = k.base_is;
@@ -133,8 +132,8 @@ keeps-fault tells old new faults later v w base history number asked tops attemp
 
 -- and where a call was refused, which is no act
 pub keeps-same : (tells : Bool) (old new : DiskState) (faults later : ℕ) (v w : ImageView) (base : Base) (history : History) (tops : List Stand)
-    (attempts : List (List ℕ)) → KeepsFor tells old faults v base history → faults ≤ later → w.steps ≡ v.steps → HoldsAs tells new w (now base history) tops attempts
-    → All (KeptStand base history) tops → All (BlamedFor history) attempts → KeepsFor tells new later w base history
+    (attempts : List Asked) → KeepsFor tells old faults v base history → faults ≤ later → w.steps ≡ v.steps → HoldsAs tells new w (now base history) tops attempts
+    → All (KeptStand base history) tops → All (Blamed history) attempts → KeepsFor tells new later w base history
 keeps-same tells old new faults later v w base history tops attempts k rise steps holds kept blamed = record {
   base_is = k.base_is;
   few = k.few;
@@ -161,5 +160,5 @@ keeps-none tells disk faults v base is few room failed steps holds = record {
   attempts = [];
   holds = holds;
   kept = kept-one base [] (stand base) refl;
-  blamed = All-nil (BlamedFor []);
+  blamed = All-nil (Blamed []);
 }

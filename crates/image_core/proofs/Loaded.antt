@@ -1,5 +1,5 @@
 -- What a load has found makes an image that stands for what the files show.
-use Rattle.std.proofs.Common.{◌≡◌, ℕ, zero, suc, ◌+◌, ◌*◌, ◌^◌, ◌<◌, ◌≤◌, Bool, IsTrue, List, [], ◌∷◌, ◌++◌, length, take, reverse, refl, sym, ap, ◌∙◌, subst, arith}
+use Rattle.std.proofs.Common.{◌≡◌, ℕ, zero, suc, ◌+◌, ◌-◌, ◌*◌, ◌^◌, ◌<◌, ◌≤◌, ◌==◌, Bool, true, false, IsTrue, List, [], ◌∷◌, ◌++◌, length, take, reverse, refl, sym, ap, ◌∙◌, subst, arith}
 use Rattle.std.specs.Prelude.{All, Option, Some, None, slice_index_or}
 use Rattle.std.specs.Arc.{arc_value}
 use Rattle.std.specs.List.{range_with_len}
@@ -16,6 +16,7 @@ use Rattle.flat_image.specs.Sheets.{Cell, IsCell, IsSheet}
 use Rattle.flat_image.specs.RowCells.{cell_of}
 use Rattle.flat_image.specs.CanonicalFiles.{stretches}
 use Rattle.flat_image.specs.Base.{top_uuid}
+use Rattle.flat_image.specs.Stacks.{HaveSize}
 use Rattle.flat_image.specs.Left.{Stand}
 use Rattle.flat_image.proofs.LayerLaws.{length-range, all_cells}
 use Rattle.flat_image.proofs.RowStretches.{rows-make_few}
@@ -35,10 +36,10 @@ use Rattle.image_core.specs.Manifest.{Names, size_said}
 use Rattle.image_core.specs.Shows.{IsSound}
 use Rattle.image_core.specs.View.{AreLayersOf}
 use Rattle.image_core.specs.Pieces.{IsSnapshotOf}
-use Rattle.image_core.specs.Parts.{IsLoaded}
+use Rattle.image_core.specs.Seen.{Seen, IsLoaded}
 use Rattle.image_core.specs.Creating.{AreLegal, fresh_at}
-use Rattle.image_core.specs.Loading.{heads_in, upper_uuid, IsBareBody, HasManifest, HaveSize, AreStackOrNone, IsLowersReason, IsLoadReason}
-use Rattle.image_core.proofs.Created.{files-parent, fresh-sound, fresh-base}
+use Rattle.image_core.specs.Loading.{heads_in, upper_uuid, IsBareBody, HasManifest, AreStackOrNone, IsLowersReason, IsLoadReason}
+use Rattle.image_core.proofs.Created.{same-upper, fresh-sound, fresh-base}
 use Rattle.image_core.proofs.Lifts.{kept-one}
 use Rattle.image_core.proofs.Named.{stored-same}
 use Rattle.image_core.proofs.PartsHold.{top-room}
@@ -53,16 +54,16 @@ heads-more layers heads i x y below is same so_far =
     (λ j. so_far j ++ here j ∷ []) ∙ sym (take_more (heads_in layers) i x (omega (arith, below, length-map layers (λ (l : LayerIndex). l.head))))
 
 -- the uuid of the uppermost layer
-upper-at : (layers : List LayerIndex) (i : ℕ) (d : LayerIndex) → suc i ≡ length layers → (slice_index_or layers i d).head.uuid ≡ upper_uuid layers
+pub upper-at : (layers : List LayerIndex) (i : ℕ) (d : LayerIndex) → suc i ≡ length layers → (slice_index_or layers i d).head.uuid ≡ upper_uuid layers
 upper-at [] i d last = absurd (omega (arith, last))
 upper-at (layer ∷ []) i d last = ap (λ (l : LayerIndex). l.head.uuid) (get_or_head layer [] i d (omega (arith, last)))
 upper-at (layer ∷ next ∷ layers) zero d last = absurd (omega (arith, last))
 upper-at (layer ∷ next ∷ layers) (suc i) d last = upper-at (next ∷ layers) i d (omega (arith, last))
 
-pub parent-upper : (layers : List LayerIndex) (parent : List ℕ) → (length layers ≡ 0 → parent ≡ nil)
-    → ((d : LayerIndex) (i : ℕ) → i + 1 ≡ length layers → parent ≡ (slice_index_or layers i d).head.uuid) → parent ≡ upper_uuid layers
-parent-upper [] parent none some = none refl
-parent-upper (layer ∷ layers) parent none some = some layer (length layers) (omega arith) ∙ upper-at (layer ∷ layers) (length layers) layer refl
+-- a list that is not empty has a last place
+pub last-place : (n : ℕ) → false ≡ (n == 0) → suc (n - 1) ≡ n
+last-place zero is = absurd (let e : false ≡ true = is in cc)
+last-place (suc n) is = omega arith
 
 -- lower layers that are no stack, behind a manifest that is one of an image
 pub lowers-reason : (files : Files) (body : List ℕ) (layers : List LayerIndex) (n : ℕ) (fault : LoadFault) → n ≡ size_said body → HasManifest files body → IsBareBody body
@@ -78,16 +79,16 @@ lowers-reason files body layers n (why.NoTop epoch reason') same manifest bare r
 
 -- files of a top that are none, behind lower layers that are a stack
 pub top-reason : (old mid : DiskState) (body : List ℕ) (layers slice other : List LayerIndex) (n : ℕ) (parent : List ℕ) (reason : TopReason) → Quiet old mid
-    → HasManifest old.seen body → IsBareBody body → n ≡ size_said body → slice ≡ layers → HaveSize n slice → AreStackOrNone slice → other ≡ layers
-    → (length other ≡ 0 → parent ≡ nil) → ((d : LayerIndex) (i : ℕ) → i + 1 ≡ length other → parent ≡ (slice_index_or other i d).head.uuid)
+    → HasManifest old.seen body → IsBareBody body → n ≡ size_said body → slice ≡ layers → HaveSize n (heads_in slice) → AreStackOrNone slice → other ≡ layers
+    → parent ≡ upper_uuid other
     → IsReason n (Some parent) (stored_in 0 mid.seen) reason → IsLoadReason old.seen layers (why.NoTop 0 reason)
-top-reason old mid body layers slice other n parent reason quiet manifest bare size same sizes stack others none some is =
-    let uppermost : parent ≡ upper_uuid layers = parent-upper other parent none some ∙ ap upper_uuid others in
+top-reason old mid body layers slice other n parent reason quiet manifest bare size same sizes stack others parent_is is =
+    let uppermost : parent ≡ upper_uuid layers = parent_is ∙ ap upper_uuid others in
     let stored : stored_in 0 mid.seen ≡ stored_in 0 old.seen = stored-same 0 mid.seen old.seen (λ f of_top. sym (quiet.others.seen f (λ none. none))) in (
       body,
       manifest,
       bare,
-      subst (λ m. HaveSize m layers) size (subst (HaveSize n) same sizes),
+      subst (λ m. HaveSize m (heads_in layers)) size (subst (λ l. HaveSize n (heads_in l)) same sizes),
       subst AreStackOrNone same stack,
       refl,
       subst (λ m. IsReason m (Some (upper_uuid layers)) (stored_in 0 old.seen) reason) size
@@ -119,19 +120,15 @@ IsShown n parent s stored = (shown : ShowsTop n parent s stored) × (shown.seque
 
 -- the parts that a load has found
 pub loaded : (tells : Bool) (old mid new : DiskState) (faults : ℕ) (p : Parts) (n : ℕ) (files : List (List ℕ)) (layers slice : List LayerIndex) (parent body : List ℕ) (s : Stand)
-    → AreLayersOf files layers → length layers ≤ 255 → HaveSize n layers → AreStackOrNone layers → slice ≡ layers → p.lowers ≡ layers → p.steps ≡ 0
-    → IsSnapshotOf (arc_value p.snapshot) layers [] → (length slice ≡ 0 → parent ≡ nil)
-    → ((d : LayerIndex) (i : ℕ) → i + 1 ≡ length slice → parent ≡ (slice_index_or slice i d).head.uuid)
+    → AreLayersOf files layers → length layers ≤ 255 → HaveSize n (heads_in layers) → AreStackOrNone layers → slice ≡ layers → p.lowers ≡ layers → p.steps ≡ 0
+    → IsSnapshotOf (arc_value p.snapshot) layers [] → parent ≡ upper_uuid slice
     → Quiet old mid → Quiet mid new → file_of p.manifest ≡ manifest_file → sequence_in p.manifest ≤ 2 ^ 61 → IsKept mid p.manifest → ((b : List ℕ) → MayHold p.manifest b → b ≡ body)
     → (IsTrue tells → HasManifest old.seen body) → IsBareBody body → n ≡ size_said body
     → (¬ IsTrue tells → s.cells ≡ blank_sheet n (table_of p.top).segments)
     → TopFits tells new n (Some parent) p.top s (s ∷ []) → (IsTrue tells → IsShown n (Some parent) s (stored_in 0 mid.seen)) → epoch_of p.top ≡ 0 → sequence_of p.top ≤ 2 ^ 61
-    → IsLoaded tells old new faults files p
-loaded tells old mid new faults p n files layers slice parent body s are few sizes stack same lowers steps snapshot none some first second file unworn kept bodies manifest bare size blank top shows epoch low =
-    let length_is : length slice ≡ length layers = ap (length {A = LayerIndex}) same in
-    let uppermost : parent ≡ top_uuid files =
-    files-parent files layers parent are (λ empty. none (length_is ∙ empty))
-    (λ d i last. some d i (last ∙ sym length_is) ∙ ap (λ (l : List LayerIndex). (slice_index_or l i d).head.uuid) same) in
+    → IsLoaded old files (record { tells = tells; state = new; faults = faults; parts = p })
+loaded tells old mid new faults p n files layers slice parent body s are few sizes stack same lowers steps snapshot parent_is first second file unworn kept bodies manifest bare size blank top shows epoch low =
+    let uppermost : parent ≡ top_uuid files = parent_is ∙ (ap upper_uuid same ∙ same-upper files layers are) in
     let is_size : IsSize n = subst IsSize (sym size) bare.size in
     let legal : AreLegal n layers = record { few = few; sizes = sizes; legal = stack } in
     let sound : IsSound (fresh_at n files faults) = fresh-sound n files layers faults legal is_size are in

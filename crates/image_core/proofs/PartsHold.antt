@@ -14,7 +14,7 @@ use Rattle.flat_image.specs.declared.base.Base.{Base}
 use Rattle.flat_image.specs.Sheets.{Cell, Hole}
 use Rattle.flat_image.specs.RowCells.{cell_of}
 use Rattle.flat_image.specs.History.{History, now, HasRoom}
-use Rattle.flat_image.specs.Left.{Stand, stand}
+use Rattle.flat_image.specs.Left.{Stand, stand, Blamed}
 use Rattle.top_writer.specs.Files.{data_file}
 use Rattle.top_writer.specs.Fitting.{ViewFits}
 use Rattle.top_writer.specs.Showing.{ShowsOne}
@@ -26,9 +26,9 @@ use Rattle.image_core.specs.Numbers.{manifest_file}
 use Rattle.image_core.specs.Shows.{epoch_of, parent_asked, ShowsFrozen}
 use Rattle.image_core.specs.View.{AreLayersOf, IsKindOf, HasKinds, ReadsAs, IsCommitOf, CommitReadsAs}
 use Rattle.image_core.specs.FileSets.{FilesFit}
-use Rattle.image_core.specs.MayBe.{BlamedFor}
 use Rattle.image_core.specs.Keeping.{HoldsAs, KeepsFor}
-use Rattle.image_core.specs.Parts.{parts_view, PartsFit, ImageStands}
+use Rattle.image_core.specs.Parts.{parts_view, PartsFit}
+use Rattle.image_core.specs.Seen.{Seen, StandsFor}
 
 -- an entry is of the kind of the cell that it says
 entry-kind : (file : List ℕ) (e : Option What) → IsKindOf e (cell_at file e)
@@ -124,10 +124,9 @@ module _ (tells : Bool) (disk : DiskState) (p : Parts) (b : Base) (tops : List S
         (subst (λ e. ShowsOne e b.sectors parent tops files) fit.epoch (fits_shown tells disk b.sectors parent (view_of p.top) (stand b) tops fit.top files leaves));
   }
 
--- so an image whose parts stand for a history keeps what it needs for it
-pub parts-keep : (tells : Bool) (disk : DiskState) (faults : ℕ) (p : Parts) (base : Base) (history : History) → ImageStands tells disk faults p base history
-    → KeepsFor tells disk faults (parts_view p) base history
-parts-keep tells disk faults p base history stands = record {
+-- so an image that stands for a history keeps what it needs for it
+pub parts-keep : (x : Seen) (base : Base) (history : History) → StandsFor x base history → KeepsFor x.tells x.state x.faults (parts_view x.parts) base history
+parts-keep x base history stands = record {
   base_is = stands.base_is;
   few = stands.few;
   proper = stands.proper;
@@ -135,7 +134,7 @@ parts-keep tells disk faults p base history stands = record {
   steps = stands.steps;
   tops = stands.tops;
   attempts = [];
-  holds = parts-hold tells disk p (now base history) stands.tops stands.fits;
+  holds = parts-hold x.tells x.state x.parts (now base history) stands.tops stands.fits;
   kept = stands.kept;
-  blamed = All-nil (BlamedFor history);
+  blamed = All-nil (Blamed history);
 }

@@ -1,11 +1,11 @@
 -- What a plan reads, sector by sector.
-use Rattle.std.proofs.Common.{◌≡◌, ℕ, zero, suc, ◌+◌, ◌*◌, ◌<◌, ◌≤◌, Bool, List, [], ◌∷◌, ◌++◌, length, map, take, drop, refl, sym, ap, ◌∙◌, subst, arith}
+use Rattle.std.proofs.Common.{◌≡◌, ℕ, zero, suc, ◌+◌, ◌*◌, ◌<◌, ◌≤◌, List, [], ◌∷◌, ◌++◌, length, map, take, drop, refl, sym, ap, ◌∙◌, subst, arith}
 use Rattle.std.specs.Prelude.{All, Option, None, slice_index_or, fold, replicate}
 use Rattle.std.proofs.Math.Seq.{take-append_seam, drop-append-add}
 use Rattle.std.proofs.lemmas.List.{drop-drop, length-drop, get_or-take, get_or-drop, length-take-le}
 use Rattle.std.proofs.lemmas.List.Sums.{fold-append}
 use Rattle.std.proofs.lemmas.List.Elements.{All-nil, All-cons, All-head, All-tail, All-take, All-drop}
-use Rattle.block_disk.specs.DiskState.{DiskState}
+use Rattle.sector_extent.specs.declared.extent.Extent.{Extent}
 use Rattle.flat_image.specs.declared.base.Base.{Base}
 use Rattle.flat_image.specs.Sheets.{Cell, Hole, Zero, Filled, IsCell, IsSector, IsSheet, zero_sector, painted, paint, flat, bytes_of, image_in}
 use Rattle.flat_image.specs.RowCells.{sector_at}
@@ -16,9 +16,10 @@ use Rattle.flat_image.specs.History.{History, now, after, committed}
 use Rattle.flat_image.proofs.HistoryLaws.{base-stays, after-is_image, now-lowers}
 use Rattle.flat_image.proofs.LayerLaws.{sheet_in-IsLayer, IsSheet-IsLayer}
 use Rattle.flat_image.proofs.Painting.{FitsIn, AreWhole, length-image_in, AreWhole-image_in, AreSectors-paint, length-flat, length-paint}
-use Rattle.top_writer.specs.Gaps.{Paints, IsHole}
-use Rattle.image_core.specs.declared.parts.Parts.{Parts}
-use Rattle.image_core.specs.Parts.{parts_view, ImageStands}
+use Rattle.top_writer.specs.Gaps.{Paints, IsHole, AreGaps}
+use Rattle.image_core.specs.Parts.{parts_view}
+use Rattle.image_core.specs.Seen.{Seen, StandsFor}
+use Rattle.image_core.specs.Upper.{over_frozen, upper, IsGap}
 use Rattle.image_core.specs.Planning.{IsPlanned, PlanReads}
 
 -- a sector under a sheet
@@ -107,38 +108,62 @@ module _ (ground : List (List ℕ)) (top : List Cell) (n : ℕ) (long : length g
     below = λ i below hole. whole-sector i (omega (arith, below, paint-long)) ∙ under-hole (slice_index_or ground i []) (slice_index_or top i Hole) hole;
   }
 
--- where the top is a hole, whatever the disk tells, the image is that of the layers alone
-pub holes-below : (tells : Bool) (disk : DiskState) (faults : ℕ) (p : Parts) (base : Base) (history : History) (i : ℕ) → ImageStands tells disk faults p base history
-    → i < (parts_view p).sectors → IsHole (now base history).top i
-    → slice_index_or (after base history) i [] ≡ slice_index_or (flat (parts_view p).sectors (map sheet_in (base.lowers ++ committed base history))) i []
-holes-below tells disk faults p base history i stands below hole =
-    let b : Base = now base history in
-    let good : IsBase b = (base-stays base history stands.base_is stands.few stands.proper).0 in
-    let files : List (List ℕ) = b.lowers ++ b.done in
-    let ground : List (List ℕ) = flat b.sectors (map sheet_in files) in
-    let long : length ground ≡ b.sectors = length-flat b.sectors (map sheet_in files) (layers-fit b.sectors files good.layers) in
-    let sectors = stands.fits.top.holds.sectors in
-    let lows : b.lowers ≡ base.lowers = now-lowers base history in
-    let image : paint ground b.top ≡ after base history =
-    sym (image-over b stands.fits.none_frozen) ∙ after-is_image base history stands.base_is stands.few stands.proper in
-    let layers : ground ≡ flat (parts_view p).sectors (map sheet_in (base.lowers ++ b.done)) = λ i. flat (sym sectors i) (map sheet_in (lows i ++ b.done)) in
-    ap (λ (m : List (List ℕ)). slice_index_or m i []) (sym image)
-    ∙ (get_or-paint ground b.top i (omega (arith, below, sectors, long)) (omega (arith, below, sectors, good.top_is.count))
-    ∙ (under-hole (slice_index_or ground i []) (slice_index_or b.top i Hole) hole ∙ ap (λ (l : List (List ℕ)). slice_index_or l i []) layers))
+-- with nothing frozen the upper part of an image is its top
+pub upper-top : (b : Base) → b.frozen ≡ None → upper b ≡ b.top
+upper-top b none = ap (λ (f : Option Frozen). over_frozen f b.top) none
 
-pub plan-reads : (tells : Bool) (disk : DiskState) (faults : ℕ) (p : Parts) (base : Base) (history : History) (at count : ℕ) (old new : List ℕ)
-    → PlanReads tells disk faults p base history at count old new
-plan-reads tells disk faults p base history at count old new stands size within paints =
-    let b : Base = now base history in
-    let good : IsBase b = (base-stays base history stands.base_is stands.few stands.proper).0 in
-    let files : List (List ℕ) = b.lowers ++ b.done in
-    let ground : List (List ℕ) = flat b.sectors (map sheet_in files) in
-    let long : length ground ≡ b.sectors = length-flat b.sectors (map sheet_in files) (layers-fit b.sectors files good.layers) in
-    let sectors = stands.fits.top.holds.sectors in
-    let lows : b.lowers ≡ base.lowers = now-lowers base history in
-    let image : paint ground b.top ≡ after base history =
-    sym (image-over b stands.fits.none_frozen) ∙ after-is_image base history stands.base_is stands.few stands.proper in
-    let layers : ground ≡ flat (parts_view p).sectors (map sheet_in (base.lowers ++ b.done)) = λ i. flat (sym sectors i) (map sheet_in (lows i ++ b.done)) in
-    subst (λ (l : List (List ℕ)). IsPlanned (after base history) l (IsHole b.top) at count old new) layers
-    (subst (λ (m : List (List ℕ)). IsPlanned m ground (IsHole b.top) at count old new) image
-    (over-ground ground b.top b.sectors long good.top_is at count old new size (omega (arith, within, sectors)) paints))
+module _ (x : Seen) (base : Base) (history : History) (stands : StandsFor x base history) where
+  abbrev b : Base
+  b = now base history
+
+  abbrev n : ℕ
+  n = (parts_view x.parts).sectors
+
+  abbrev ground : List (List ℕ)
+  ground = flat b.sectors (map sheet_in (b.lowers ++ b.done))
+
+  good : IsBase b
+  good = (base-stays base history stands.base_is stands.few stands.proper).0
+
+  long : length ground ≡ b.sectors
+  long = length-flat b.sectors (map sheet_in (b.lowers ++ b.done)) (layers-fit b.sectors (b.lowers ++ b.done) good.layers)
+
+  sectors : n ≡ b.sectors
+  sectors = stands.fits.top.holds.sectors
+
+  top-is : upper b ≡ b.top
+  top-is = upper-top b stands.fits.none_frozen
+
+  image : paint ground b.top ≡ after base history
+  image = sym (image-over b stands.fits.none_frozen) ∙ after-is_image base history stands.base_is stands.few stands.proper
+
+  layers : ground ≡ flat n (map sheet_in (base.lowers ++ b.done))
+  layers = let lows : b.lowers ≡ base.lowers = now-lowers base history in λ i. flat (sym sectors i) (map sheet_in (lows i ++ b.done))
+
+  -- in a gap, whatever the disk tells, the image is that of the layers alone
+  pub holes-below : (i : ℕ) → i < (parts_view x.parts).sectors → IsGap (now base history) i
+      → slice_index_or (after base history) i [] ≡ slice_index_or (flat (parts_view x.parts).sectors (map sheet_in (base.lowers ++ committed base history))) i []
+  holes-below i below gap =
+      let hole : slice_index_or b.top i Hole ≡ Hole = subst (λ (cells : List Cell). IsHole cells i) top-is gap in
+      ap (λ (m : List (List ℕ)). slice_index_or m i []) (sym image)
+      ∙ (get_or-paint ground b.top i (omega (arith, below, sectors, long)) (omega (arith, below, sectors, good.top_is.count))
+      ∙ (under-hole (slice_index_or ground i []) (slice_index_or b.top i Hole) hole ∙ ap (λ (l : List (List ℕ)). slice_index_or l i []) layers))
+
+  pub plan-reads : (at count : ℕ) (old new : List ℕ) → PlanReads x base history at count old new
+  plan-reads at count old new k size within paints =
+      let of_top : Paints b.top at count old new = subst (λ (cells : List Cell). Paints cells at count old new) top-is paints in
+      subst (λ (cells : List Cell). IsPlanned (after base history) (flat n (map sheet_in (base.lowers ++ b.done))) (IsHole cells) at count old new) (sym top-is)
+      (subst (λ (l : List (List ℕ)). IsPlanned (after base history) l (IsHole b.top) at count old new) layers
+      (subst (λ (m : List (List ℕ)). IsPlanned m ground (IsHole b.top) at count old new) image
+      (over-ground ground b.top b.sectors long good.top_is at count old new size (omega (arith, within, sectors)) of_top)))
+
+-- what the top paints and leaves, as what the upper part does
+pub paints-upper : (x : Seen) (base : Base) (history : History) (at count : ℕ) (old new : List ℕ) → StandsFor x base history
+    → Paints (now base history).top at count old new → Paints (upper (now base history)) at count old new
+paints-upper x base history at count old new stands =
+    subst (λ (cells : List Cell). Paints cells at count old new) (sym (upper-top (now base history) stands.fits.none_frozen))
+
+pub gaps-upper : (x : Seen) (base : Base) (history : History) (from until : ℕ) (gaps : List Extent) → StandsFor x base history
+    → AreGaps (IsHole (now base history).top) from until gaps → AreGaps (IsGap (now base history)) from until gaps
+gaps-upper x base history from until gaps stands =
+    subst (λ (cells : List Cell). AreGaps (IsHole cells) from until gaps) (sym (upper-top (now base history) stands.fits.none_frozen))

@@ -1,8 +1,7 @@
 -- Files that show an image without commits are loaded as that image.
-use Rattle.std.proofs.Common.{◌≡◌, ℕ, ◌^◌, ◌≤◌, inl, inr, Bool, List, [], ◌∷◌, ◌++◌, length, refl, sym, ap, ◌∙◌, subst, arith}
+use Rattle.std.proofs.Common.{◌≡◌, ℕ, ◌^◌, ◌≤◌, inl, inr, List, [], ◌∷◌, ◌++◌, length, refl, sym, ap, ◌∙◌, subst, arith}
 use Rattle.std.specs.Prelude.{Option, Some, None}
 use Rattle.std.proofs.lemmas.List.{append-nil, length-map}
-use Rattle.std.proofs.lemmas.List.Elements.{All-nil, All-cons}
 use Rattle.block_disk.specs.DiskState.{DiskState, Files}
 use Rattle.lsmt_header.specs.declared.head.Head.{Head}
 use Rattle.lsmt_header.specs.Blocks.{IsSize}
@@ -13,52 +12,34 @@ use Rattle.flat_image.specs.declared.base.Base.{Base}
 use Rattle.flat_image.specs.Base.{pending_of, top_uuid}
 use Rattle.flat_image.specs.Left.{stand}
 use Rattle.top_writer.specs.Files.{stored_in}
-use Rattle.flat_image.specs.Stacks.{Legal}
+use Rattle.flat_image.specs.Stacks.{HaveSize, Legal}
 use Rattle.top_writer.specs.declared.fault.TopReason.{TopReason}
 use Rattle.top_writer.specs.Reasons.{IsReason}
 use Rattle.top_writer.proofs.OneStand.{no_reason}
 use Rattle.image_core.specs.declared.loading.LoadFault.{LoadFault}
 use Rattle.image_core.specs.declared.loading.LoadFault.TheVariants as why
-use Rattle.image_core.specs.declared.parts.Parts.{Parts}
 use Rattle.image_core.specs.Numbers.{manifest_file, with_pending}
 use Rattle.image_core.specs.Manifest.{size_said, uuid_or_nil}
 use Rattle.image_core.specs.Shows.{epoch_of, AreHeadsOf, AreStack, ShowsStand, Shows}
 use Rattle.image_core.specs.View.{AreLayersOf}
-use Rattle.image_core.specs.Parts.{ImageStands}
-use Rattle.image_core.specs.Loading.{heads_in, upper_uuid, IsBareBody, HasManifest, HaveSize, Reopens, ReopensAs}
-use Rattle.image_core.proofs.Created.{layer-file}
+use Rattle.image_core.specs.Seen.{Seen, StandsFor}
+use Rattle.image_core.specs.Loading.{heads_in, upper_uuid, IsBareBody, HasManifest, Reopens, ReopensAs}
+use Rattle.image_core.proofs.Created.{same-upper}
 use Rattle.image_core.proofs.ShownBase.{shows-one_base}
 use Rattle.image_core.proofs.StackMore.{heads-length}
 use Rattle.image_core.proofs.TopShown.{one-body}
-use Rattle.flat_image.specs.RowCells.{sheet_of}
-use Rattle.flat_image.proofs.LayerLaws.{uuid_in-layer}
 
 -- the heads of files are those of their layers
-pub same-heads : (n : ℕ) (files : List (List ℕ)) (heads : List Head) (layers : List LayerIndex) → AreHeadsOf n files heads → AreLayersOf files layers
-    → (heads ≡ heads_in layers) × HaveSize n layers
-same-heads n [] [] [] are of = (refl, All-nil (λ (l : LayerIndex). l.head.sectors ≡ n))
-same-heads n [] [] (layer ∷ layers) are of = absurd of
-same-heads n [] (head ∷ heads) layers are of = absurd are
-same-heads n (file ∷ files) [] layers are of = absurd are
-same-heads n (file ∷ files) (head ∷ heads) [] are of = absurd of
-same-heads n (file ∷ files) (head ∷ heads) (layer ∷ layers) are of =
-    let one = one_layer file head layer.head are.0.layer.rows layer.rows are.0.layer.layer of.0 in
-    let rest = same-heads n files heads layers are.1 of.1 in
-    let here : head ≡ layer.head = one.0 in
-    let others = rest.0 in (
-      λ i. here i ∷ others i,
-      All-cons (λ (l : LayerIndex). l.head.sectors ≡ n) layer layers (ap (λ (h : Head). h.sectors) (sym here) ∙ are.0.size) rest.1,
-    )
-
--- the uuid of the uppermost layer is that of the uppermost file
-same-upper : (files : List (List ℕ)) (layers : List LayerIndex) → AreLayersOf files layers → upper_uuid layers ≡ top_uuid files
-same-upper [] [] are = refl
-same-upper [] (layer ∷ layers) are = absurd are
-same-upper (file ∷ files) [] are = absurd are
-same-upper (file ∷ []) (layer ∷ []) are = sym (uuid_in-layer file layer.head (sheet_of file layer.head.sectors layer.rows) (layer-file file layer are.0))
-same-upper (file ∷ []) (layer ∷ next ∷ layers) are = absurd are.1
-same-upper (file ∷ next ∷ files) (layer ∷ []) are = absurd are.1
-same-upper (file ∷ next ∷ files) (layer ∷ above ∷ layers) are = same-upper (next ∷ files) (above ∷ layers) are.1
+pub same-heads : (files : List (List ℕ)) (heads : List Head) (layers : List LayerIndex) → AreHeadsOf files heads → AreLayersOf files layers → heads ≡ heads_in layers
+same-heads [] [] [] are of = refl
+same-heads [] [] (layer ∷ layers) are of = absurd of
+same-heads [] (head ∷ heads) layers are of = absurd are
+same-heads (file ∷ files) [] layers are of = absurd are
+same-heads (file ∷ files) (head ∷ heads) [] are of = absurd of
+same-heads (file ∷ files) (head ∷ heads) (layer ∷ layers) are of =
+    let here : head ≡ layer.head = (one_layer file head layer.head are.0.layer.rows layer.rows are.0.layer.layer of.0).0 in
+    let others = same-heads files heads layers are.1 of.1 in
+    λ i. here i ∷ others i
 
 heads-long : (layers : List LayerIndex) → length (heads_in layers) ≡ length layers
 heads-long layers = length-map layers (λ (l : LayerIndex). l.head)
@@ -85,8 +66,8 @@ module _ (files : Files) (b : Base) (layers : List LayerIndex) (shows : Shows fi
   stack : AreStack b.sectors b.lowers
   stack = subst (AreStack b.sectors) (append-nil b.lowers) (subst (λ (d : List (List ℕ)). AreStack b.sectors (b.lowers ++ d)) none_done shows.sound.stack)
 
-  sizes : HaveSize b.sectors layers
-  sizes = (same-heads b.sectors b.lowers stack.heads layers stack.are are).1
+  sizes : HaveSize b.sectors (heads_in layers)
+  sizes = subst (HaveSize b.sectors) (same-heads b.lowers stack.heads layers stack.are are) stack.sizes
 
   no-top : shows.top.sequence ≤ 2 ^ 61 → (body : List ℕ) → HasManifest files body → (reason : TopReason) → IsReason (size_said body) (Some (upper_uuid layers)) (stored_in 0 files) reason → ⊥
   no-top low body manifest reason bad =
@@ -105,19 +86,19 @@ reopens files b layers (why.ManifestWorn sequence) shows low none_done none_froz
 reopens files b layers why.ManifestBad shows low none_done none_frozen are bad =
     absurd (bad.2 (subst IsBareBody (sym (body_is files b layers shows none_done none_frozen are bad.0 bad.1)) (bare files b layers shows none_done none_frozen are)))
 reopens files b layers why.SizeDiffers shows low none_done none_frozen are bad =
-    absurd (bad.3 (subst (λ m. HaveSize m layers) (sym (size_is files b layers shows none_done none_frozen are bad.0 bad.1)) (sizes files b layers shows none_done none_frozen are)))
+    absurd (bad.3 (subst (λ m. HaveSize m (heads_in layers)) (sym (size_is files b layers shows none_done none_frozen are bad.0 bad.1)) (sizes files b layers shows none_done none_frozen are)))
 reopens files b layers (why.Stack fault) shows low none_done none_frozen are bad =
     let st = stack files b layers shows none_done none_frozen are in
-    let heads = (same-heads b.sectors b.lowers st.heads layers st.are are).0 in
-    let count : length st.heads ≡ length b.lowers = heads-length b.sectors b.lowers st.heads st.are in
+    let heads = same-heads b.lowers st.heads layers st.are are in
+    let count : length st.heads ≡ length b.lowers = heads-length b.lowers st.heads st.are in
     let some : 1 ≤ length b.lowers = omega (arith, bad.3.1, count, ap (length {A = Head}) heads, heads-long layers) in
     absurd (fault_not_legal (heads_in layers) fault bad.3.2 (subst Legal heads (st.legal some)))
 reopens files b layers (why.NoTop epoch reason) shows low none_done none_frozen are bad =
     absurd (no-top files b layers shows none_done none_frozen are low.top bad.0 bad.1 reason bad.6)
 
-pub reopens-as : (tells : Bool) (old new : DiskState) (faults : ℕ) (p : Parts) (b : Base) → ReopensAs tells old new faults p b
-reopens-as tells old new faults p b loaded told shows =
-    let other : Base = record b { faults = faults } in
+pub reopens-as : (old : DiskState) (x : Seen) (b : Base) → ReopensAs old x b
+reopens-as old x b loaded told shows =
+    let other : Base = record b { faults = x.faults } in
     let again : Shows old.seen other = record {
       sequence = shows.sequence;
       body = shows.body;
@@ -128,4 +109,4 @@ reopens-as tells old new faults p b loaded told shows =
       frozen = shows.frozen;
       top = shows.top;
     } in
-    subst (λ c. ImageStands tells new faults p c []) (shows-one_base old.seen loaded.base other (loaded.shows told) again loaded.lowers_are loaded.faults_are) loaded.stands
+    subst (λ c. StandsFor x c []) (shows-one_base old.seen loaded.base other (loaded.shows told) again loaded.lowers_are loaded.faults_are) loaded.stands

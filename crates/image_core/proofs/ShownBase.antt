@@ -2,10 +2,11 @@
 use Rattle.std.proofs.Common.{◌≡◌, ◌≢◌, ℕ, ◌≤◌, ◌^◌, List, [], ◌∷◌, ◌++◌, length, drop, refl, sym, ap, ◌∙◌, subst, arith}
 use Rattle.std.specs.Prelude.{All, Option, Some, None, IfSome}
 use Rattle.std.proofs.lemmas.List.{length-take-le, length-drop, ext_get_or}
-use Rattle.std.proofs.lemmas.List.Elements.{All-nil, All-cons}
+use Rattle.std.proofs.lemmas.List.Elements.{All-nil, All-cons, All-head, All-tail}
 use Rattle.block_disk.specs.DiskState.{Files}
 use Rattle.lsmt_header.specs.declared.head.Head.{Head}
 use Rattle.lsmt_header.specs.Blocks.{nil}
+use Rattle.flat_image.specs.Stacks.{HaveSize}
 use Rattle.flat_image.specs.declared.base.Base.{Base}
 use Rattle.flat_image.specs.Frozen.{Frozen}
 use Rattle.flat_image.specs.CanonicalFiles.{stretches}
@@ -19,12 +20,14 @@ use Rattle.image_core.specs.Laws.{ShowsABase, ShowsOneBase}
 use Rattle.image_core.proofs.TopShown.{shown-sheet, shown-few, one-body, length-body, one-top}
 
 -- files with heads of layers are files of layers
-pub heads-layers : (n : ℕ) (files : List (List ℕ)) (heads : List Head) → AreHeadsOf n files heads → All (IsLayerFile n) files
-heads-layers n [] heads are = All-nil (IsLayerFile n)
-heads-layers n (file ∷ files) [] are = absurd are
-heads-layers n (file ∷ files) (head ∷ heads) are =
+pub heads-layers : (n : ℕ) (files : List (List ℕ)) (heads : List Head) → AreHeadsOf files heads → HaveSize n heads → All (IsLayerFile n) files
+heads-layers n [] heads are sizes = All-nil (IsLayerFile n)
+heads-layers n (file ∷ files) [] are sizes = absurd are
+heads-layers n (file ∷ files) (head ∷ heads) are sizes =
+    let Size : Head → Type 0 = λ h. h.sectors ≡ n in
     All-cons (IsLayerFile n) file files
-    (head.uuid, are.0.sheet, record { head = head; layer = are.0.layer; size = are.0.size; named = refl }) (heads-layers n files heads are.1)
+    (head.uuid, are.0.sheet, record { head = head; layer = are.0.layer; size = All-head Size head heads sizes; named = refl })
+    (heads-layers n files heads are.1 (All-tail Size head heads sizes))
 
 length-uuid : (body : List ℕ) → length body ≡ 48 → length (uuid_said body) ≡ 16
 unfolding uuid_said
@@ -49,7 +52,7 @@ shows-a_base files base shows =
       record {
         top_is = shown-sheet base.sectors parent (stand base) (stored_in (epoch_of base) files) shows.top shows.sound.size.0 shows.sound.size.1;
         frozen_is = frozen.0;
-        layers = heads-layers base.sectors (base.lowers ++ base.done) shows.sound.stack.heads shows.sound.stack.are;
+        layers = heads-layers base.sectors (base.lowers ++ base.done) shows.sound.stack.heads shows.sound.stack.are shows.sound.stack.sizes;
       },
       record { top = shown-few base.sectors parent (stand base) (stored_in (epoch_of base) files) shows.top; frozen = frozen.1 },
     )

@@ -17,7 +17,7 @@ use Rattle.sealed_layer.proofs.LayerUnique.{one_layer}
 use Rattle.image_core.specs.Shows.{Shows}
 use Rattle.image_core.specs.View.{ImageView, AreLayersOf, sealed_read, sheets_read}
 use Rattle.image_core.specs.Laws.{KeptShows, SealedStay, HistoryReads, ImageReads, ReadSame, HistoryTells}
-use Rattle.image_core.specs.Standing.{StandsFor}
+use Rattle.image_core.specs.Standing.{ViewStands}
 use Rattle.image_core.proofs.SheetsRead.{sealed-read, layers-length, sheets-read, same-kinds, same-commit}
 
 pub kept-shows : (base : Base) (history : History) (files : Files) → KeptShows base history files
@@ -31,7 +31,7 @@ history-reads tells disk faults v base history stands =
     (same, subst (λ n. IsImage n (after base history)) (sym stands.view.sectors) (subst (IsImage (now base history).sectors) same whole))
 
 -- the sheets that the image reads are those of what the history made
-stands-sheets : (tells : Bool) (disk : DiskState) (faults : ℕ) (v : ImageView) (base : Base) (history : History) → StandsFor tells disk faults v base history → IsTrue tells
+stands-sheets : (tells : Bool) (disk : DiskState) (faults : ℕ) (v : ImageView) (base : Base) (history : History) → ViewStands tells disk faults v base history → IsTrue tells
     → sheets_read disk.seen base.lowers v ≡ sheets_of (now base history)
 stands-sheets tells disk faults v base history stands told =
     let good : IsBase (now base history) = (base-stays base history stands.base_is stands.few stands.proper).0 in
@@ -94,7 +94,7 @@ one-list (file ∷ files) (x ∷ xs) (y ∷ ys) are others =
 
 -- where the disks tell, two images that stand for one history read the same
 read-same : (tells : Bool) (disk : DiskState) (faults : ℕ) (v : ImageView) (disk' : DiskState) (faults' : ℕ) (w : ImageView) (base : Base) (history : History)
-    → StandsFor tells disk faults v base history → StandsFor tells disk' faults' w base history → IsTrue tells → ReadSame base.lowers disk.seen v disk'.seen w
+    → ViewStands tells disk faults v base history → ViewStands tells disk' faults' w base history → IsTrue tells → ReadSame base.lowers disk.seen v disk'.seen w
 read-same tells disk faults v disk' faults' w base history stands others told =
     let done : List (List ℕ) = (now base history).done in
     let one : sealed_read disk.seen (length v.committed) ≡ done =

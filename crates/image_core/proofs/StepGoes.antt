@@ -1,5 +1,5 @@
 -- Steps of an image that are calls on its top.
-use Rattle.std.proofs.Common.{◌≡◌, ℕ, ◌+◌, ◌*◌, ◌^◌, ◌≤◌, inl, inr, Bool, false, List, [], ◌∷◌, ◌++◌, length, refl, sym, ap, ◌∙◌, subst, arith, length-append}
+use Rattle.std.proofs.Common.{◌≡◌, ℕ, ◌+◌, ◌*◌, ◌^◌, ◌<◌, ◌≤◌, inl, inr, Bool, false, List, [], ◌∷◌, ◌++◌, length, refl, sym, ap, ◌∙◌, subst, arith, length-append}
 use Rattle.std.specs.Prelude.{All, Option, Some, None}
 use Rattle.std.specs.Arc.{arc_value}
 use Rattle.std.proofs.lemmas.List.Elements.{All-nil}
@@ -8,29 +8,32 @@ use Rattle.block_disk.specs.Claims.{LeavesOnly, Beside, Quiet}
 use Rattle.block_disk.proofs.Moments.{by_quiet}
 use Rattle.gate_mark.specs.Mark.{sequence_in, IsKept, MayHold}
 use Rattle.flat_image.specs.declared.act.Act.{Act}
-use Rattle.flat_image.specs.declared.act.Act.TheVariants.{Flush, Fault}
-use Rattle.flat_image.specs.declared.act.Asked.TheVariants.{Nothing}
+use Rattle.flat_image.specs.declared.act.Act.TheVariants.{Read, Write, Zero, Flush, Freeze, Seal, Fault}
+use Rattle.flat_image.specs.declared.act.Asked.TheVariants.{Nothing, Uuid}
 use Rattle.flat_image.specs.declared.base.Base.{Base}
 use Rattle.flat_image.specs.Entries.{entry}
 use Rattle.flat_image.specs.History.{History, now, step, keeps, is_fault, fault_count, Allowed, HasRoom, IsWithin}
-use Rattle.flat_image.specs.Left.{Stand, stand, put_top}
+use Rattle.flat_image.specs.Left.{Stand, stand, put_top, Blamed}
 use Rattle.flat_image.proofs.HistoryLaws.{now-entry, proper-entry, base-stays}
 use Rattle.top_writer.specs.Files.{TopFiles}
 use Rattle.top_writer.specs.declared.top.Top.{Top}
-use Rattle.top_writer.proofs.Going.{KnowsNow, going_started, fits_quiet}
+use Rattle.top_writer.proofs.Going.{KnowsNow, going_started, fits_quiet, goes_same}
 use Rattle.top_writer.specs.Fitting.{TopGoes}
 use Rattle.top_writer.specs.Showing.{ShowsOne}
 use Rattle.top_writer.specs.Stands.{unchanged, as_before, just_this, this_too}
 use Rattle.top_writer.specs.View.{view_of, epoch_of, sectors_of, sequence_of}
+use Rattle.image_core.specs.declared.image.Image.{Image}
 use Rattle.image_core.specs.declared.parts.Parts.{Parts}
+use Rattle.block_disk.specs.declared.disk.Disk.{Ghosts}
 use Rattle.image_core.specs.Numbers.{manifest_file}
 use Rattle.image_core.specs.Shows as shows
 use Rattle.image_core.specs.View.{AreLayersOf}
 use Rattle.image_core.specs.Pieces.{IsSnapshotOf}
 use Rattle.image_core.specs.FileSets.{FilesFit}
 use Rattle.image_core.specs.Standing.{ShowsLeft}
-use Rattle.image_core.specs.MayBe.{ShowsMayBe, KeptStand, BlamedFor}
-use Rattle.image_core.specs.Parts.{PartsFit, ImageStands, Goes}
+use Rattle.image_core.specs.MayBe.{ShowsMayBe, KeptStand}
+use Rattle.image_core.specs.Parts.{parts_view, PartsFit}
+use Rattle.image_core.specs.Seen.{Seen, seen, with_disk, StandsFor, ShowsLeftWithin, Goes}
 use Rattle.image_core.proofs.FilesShown.{files-shown}
 use Rattle.image_core.proofs.Lifts.{left-of, kept-more, kept-one, kept-too, fault-entry, fault-more}
 use Rattle.image_core.proofs.PartsHold.{top-room, files-fit}
@@ -46,88 +49,103 @@ not-manifest epoch f is (inl data_is) = omega (arith, is, data_is)
 not-manifest epoch f is (inr (inl index_is)) = omega (arith, is, index_is)
 not-manifest epoch f is (inr (inr mark_is)) = omega (arith, is, mark_is)
 
-module _ (tells : Bool) (old new : DiskState) (p q : Parts) (becomes : Stand → Stand) (leaves : Stand → List Stand → List Stand) (same : IsSameBesides p q)
-    (goes : TopGoes tells old new p.top q.top becomes leaves) where
+-- what a crash leaves of the history it may leave within any step
+pub left-within : (base : Base) (history : History) (noted : Option Act) (files : Files) → ShowsLeft base history files → ShowsLeftWithin base history noted files
+left-within base history (Some (Freeze uuid)) files left = inl left
+left-within base history (Some (Seal uuid)) files left = inl left
+left-within base history (Some (Fault (Uuid uuid))) files left = inl left
+left-within base history (Some (Fault Nothing)) files left = left
+left-within base history (Some (Read at count)) files left = left
+left-within base history (Some (Write at bytes)) files left = left
+left-within base history (Some (Zero at count)) files left = left
+left-within base history (Some Flush) files left = left
+left-within base history None files left = left
+
+module _ (x y : Seen) (becomes : Stand → Stand) (leaves : Stand → List Stand → List Stand) (same : IsSameBesides x.parts y.parts) (tells_is : y.tells ≡ x.tells)
+    (goes : TopGoes x.tells x.state y.state x.parts.top y.parts.top becomes leaves) where
   -- what the image is after a call on its top
-  fits-after : (b : Base) (tops : List Stand) → PartsFit tells old p b tops → PartsFit tells new q (put_top b (becomes (stand b))) (leaves (stand b) tops)
+  fits-after : (b : Base) (tops : List Stand) → PartsFit x.tells x.state x.parts b tops → PartsFit y.tells y.state y.parts (put_top b (becomes (stand b))) (leaves (stand b) tops)
   fits-after b tops fit =
       let parent : Option (List ℕ) = shows.parent_asked (shows.epoch_of b) b.lowers in
       let others = (goes.any_moment b.sectors parent (stand b) tops fit.top).others in
-      let kept : IsKept new p.manifest = λ file left. fit.manifest file (others.left p.manifest.file file (not-manifest (epoch_of p.top) p.manifest.file fit.manifest_is) left) in
-      record {
+      let kept : IsKept y.state x.parts.manifest = λ file left. fit.manifest file
+      (others.left x.parts.manifest.file file (not-manifest (epoch_of x.parts.top) x.parts.manifest.file fit.manifest_is) left) in
+      let made : Base = put_top b (becomes (stand b)) in
+      subst (λ (t : Bool). PartsFit t y.state y.parts made (leaves (stand b) tops)) (sym tells_is) (record {
         sound = record { size = fit.sound.size; few = fit.sound.few; stack = fit.sound.stack; unlike = fit.sound.unlike };
         none_done = fit.none_done;
         none_frozen = fit.none_frozen;
         manifest_is = ap (λ m. m.file) same.manifest ∙ fit.manifest_is;
-        manifest = subst (IsKept new) (sym same.manifest) kept;
+        manifest = subst (IsKept y.state) (sym same.manifest) kept;
         named = λ body may. fit.named body (subst (λ m. MayHold m body) same.manifest may);
         lowers = subst (AreLayersOf b.lowers) (sym same.lowers) fit.lowers;
-        snapshot = let one = same.snapshot in let two = same.lowers in subst (λ l. IsSnapshotOf (arc_value q.snapshot) l []) (sym two)
-            (subst (λ s. IsSnapshotOf (arc_value s) p.lowers []) (sym one) fit.snapshot);
+        snapshot = let one = same.snapshot in let two = same.lowers in subst (λ l. IsSnapshotOf (arc_value y.parts.snapshot) l []) (sym two)
+            (subst (λ s. IsSnapshotOf (arc_value s) x.parts.lowers []) (sym one) fit.snapshot);
         epoch = goes.epoch ∙ fit.epoch;
         top = goes.fits b.sectors parent (stand b) tops fit.top;
-      }
+      })
 
   -- and what a crash leaves at each moment of it
-  moment : (faults : ℕ) (base : Base) (history : History) → ImageStands tells old faults p base history → LeavesOnly old new (λ (u : Unit {0}) (files : Files). ShowsLeft base history files)
-  moment faults base history stands =
+  moment : (noted : Option Act) (base : Base) (history : History) → StandsFor x base history
+      → LeavesOnly x.state y.state (λ (u : Unit {0}) (files : Files). ShowsLeftWithin base history noted files)
+  moment noted base history stands =
       let b : Base = now base history in
       let parent : Option (List ℕ) = shows.parent_asked (shows.epoch_of b) b.lowers in
       let may : List Stand = stand b ∷ stands.tops in
       let run = goes.any_moment b.sectors parent (stand b) stands.tops stands.fits.top in
       let good = base-stays base history stands.base_is stands.few stands.proper in
-      let left : (files : Files) → Beside (TopFiles (epoch_of p.top)) old (ShowsOne (epoch_of p.top) b.sectors parent may) files → ShowsLeft base history files =
+      let left : (files : Files) → Beside (TopFiles (epoch_of x.parts.top)) x.state (ShowsOne (epoch_of x.parts.top) b.sectors parent may) files → ShowsLeft base history files =
       λ files beside.
       let fits : FilesFit b may [] files =
-      files-fit tells old p b stands.tops stands.fits may files (beside.others manifest_file (not-manifest (epoch_of p.top) manifest_file refl))
+      files-fit x.tells x.state x.parts b stands.tops stands.fits may files (beside.others manifest_file (not-manifest (epoch_of x.parts.top) manifest_file refl))
       (subst (λ e. ShowsOne e b.sectors parent may files) stands.fits.epoch beside.has) in
       let shown : ShowsMayBe b may [] files = files-shown b may [] files good.0 good.1 stands.fits.sound fits in
       record {
         found = shown.found;
         shows = shown.shows;
-        left = left-of base history may [] shown.found (kept-too base history (stand b) stands.tops refl stands.kept) (All-nil (BlamedFor history)) shown.may_be;
+        left = left-of base history may [] shown.found (kept-too base history (stand b) stands.tops refl stands.kept) (All-nil (Blamed history)) shown.may_be;
       }
       in record {
         later = run.leaves.later;
         past = run.leaves.past;
-        each = λ k from to. let at_k = run.leaves.each k from to in (tt, λ files at_it. left files (at_k.1 files at_it));
+        each = λ k from to. let at_k = run.leaves.each k from to in (tt, λ files at_it. left-within base history noted files (left files (at_k.1 files at_it)));
       }
 
 -- a call that notes an act
-pub goes-noted : (tells : Bool) (old new : DiskState) (faults later : ℕ) (p q : Parts) (becomes : Stand → Stand) (leaves : Stand → List Stand → List Stand) (act : Act)
-    → IsSameBesides p q → q.steps ≡ p.steps + 1 → TopGoes tells old new p.top q.top becomes leaves
+pub goes-noted : (x y : Seen) (becomes : Stand → Stand) (leaves : Stand → List Stand → List Stand) (act : Act)
+    → IsSameBesides x.parts y.parts → y.tells ≡ x.tells → y.parts.steps ≡ x.parts.steps + 1 → TopGoes x.tells x.state y.state x.parts.top y.parts.top becomes leaves
     → ((b : Base) → step b act ≡ put_top b (becomes (stand b)))
-    → ((b : Base) → sectors_of p.top ≡ b.sectors → Allowed b act)
-    → ((base : Base) (history : History) (number : ℕ) → base.faults + fault_count history ≤ faults → base.faults + fault_count (history ++ entry number act ∷ []) ≤ later)
+    → ((b : Base) → sectors_of x.parts.top ≡ b.sectors → Allowed b act)
+    → ((base : Base) (history : History) (number : ℕ) → base.faults + fault_count history ≤ x.faults → base.faults + fault_count (history ++ entry number act ∷ []) ≤ y.faults)
     → ((base : Base) (history : History) (number : ℕ) (tops : List Stand) → All (KeptStand base history) tops
     → All (KeptStand base (history ++ entry number act ∷ [])) (leaves (stand (now base history)) tops))
-    → Goes tells old new faults later p q (Some act)
-goes-noted tells old new faults later p q becomes leaves act same steps goes is allowed counts keeping = record {
+    → Goes x y (Some act)
+goes-noted x y becomes leaves act same tells_is steps goes is allowed counts keeping = record {
   stands = λ base history number k.
       let b : Base = now base history in
       let made : Base = put_top b (becomes (stand b)) in
       let parent : Option (List ℕ) = shows.parent_asked (shows.epoch_of b) b.lowers in
-      let after : PartsFit tells new q made (leaves (stand b) k.tops) = fits-after tells old new p q becomes leaves same goes b k.tops k.fits in
-      let room : HasRoom made.rows made.filled = top-room tells new b.sectors parent (view_of q.top) (becomes (stand b)) (leaves (stand b) k.tops) after.top in
+      let after : PartsFit y.tells y.state y.parts made (leaves (stand b) k.tops) = fits-after x y becomes leaves same tells_is goes b k.tops k.fits in
+      let room : HasRoom made.rows made.filled = top-room y.tells y.state b.sectors parent (view_of y.parts.top) (becomes (stand b)) (leaves (stand b) k.tops) after.top in
       record {
         base_is = k.base_is;
         few = k.few;
         proper = proper-entry base history number act k.proper (allowed b k.fits.top.holds.sectors) (subst (λ (c : Base). HasRoom c.rows c.filled) (sym (is b)) room);
         failed = counts base history number k.failed;
-        steps = steps ∙ (let e : p.steps + 1 ≡ length (history ++ entry number act ∷ []) = omega (arith, k.steps, length-append history (entry number act ∷ [])) in e);
+        steps = steps ∙ (let e : x.parts.steps + 1 ≡ length (history ++ entry number act ∷ []) = omega (arith, k.steps, length-append history (entry number act ∷ [])) in e);
         low = omega (arith, goes.sequence, k.low, steps);
         manifest_low = subst (λ m. sequence_in m ≤ 2 ^ 61) (sym same.manifest) k.manifest_low;
         tops = leaves (stand b) k.tops;
-        fits = subst (λ (c : Base). PartsFit tells new q c (leaves (stand b) k.tops)) (sym (now-entry base history number act ∙ is b)) after;
+        fits = subst (λ (c : Base). PartsFit y.tells y.state y.parts c (leaves (stand b) k.tops)) (sym (now-entry base history number act ∙ is b)) after;
         kept = keeping base history number k.tops k.kept;
       };
-  any_moment = λ base history k. moment tells old new p q becomes leaves same goes faults base history k;
+  any_moment = λ base history k. moment x y becomes leaves same tells_is goes (Some act) base history k;
 }
 
 -- a call that was refused
-pub goes-refused : (tells : Bool) (old new : DiskState) (faults later : ℕ) (p q : Parts) → IsSameBesides p q → q.steps ≡ p.steps → sequence_of q.top ≡ sequence_of p.top
-    → faults ≤ later → TopGoes tells old new p.top q.top unchanged as_before → Goes tells old new faults later p q None
-goes-refused tells old new faults later p q same steps sequence rise goes = record {
+pub goes-refused : (x y : Seen) → IsSameBesides x.parts y.parts → y.tells ≡ x.tells → y.parts.steps ≡ x.parts.steps → sequence_of y.parts.top ≡ sequence_of x.parts.top
+    → x.faults ≤ y.faults → TopGoes x.tells x.state y.state x.parts.top y.parts.top unchanged as_before → Goes x y None
+goes-refused x y same tells_is steps sequence rise goes = record {
   stands = λ base history number k. record {
     base_is = k.base_is;
     few = k.few;
@@ -137,11 +155,16 @@ goes-refused tells old new faults later p q same steps sequence rise goes = reco
     low = omega (arith, sequence, k.low, steps);
     manifest_low = subst (λ m. sequence_in m ≤ 2 ^ 61) (sym same.manifest) k.manifest_low;
     tops = k.tops;
-    fits = fits-after tells old new p q unchanged as_before same goes (now base history) k.tops k.fits;
+    fits = fits-after x y unchanged as_before same tells_is goes (now base history) k.tops k.fits;
     kept = k.kept;
   };
-  any_moment = λ base history k. moment tells old new p q unchanged as_before same goes faults base history k;
+  any_moment = λ base history k. moment x y unchanged as_before same tells_is goes None base history k;
 }
+
+-- an image that nothing is done to
+pub goes-not : (x : Seen) → KnowsNow x.state → Goes x x None
+goes-not x now_at =
+    goes-refused x x (record { manifest = refl; lowers = refl; snapshot = refl }) refl refl refl (omega arith) (goes_same x.tells x.state x.parts.top x.parts.top refl now_at)
 
 -- how many faults there are with one act more
 pub counts-clean : (faults later : ℕ) (act : Act) → is_fault act ≡ false → faults ≤ later → (base : Base) (history : History) (number : ℕ)
@@ -184,3 +207,27 @@ quiet-goes tells old new top now_at at_now quiet = record {
       by_quiet (TopFiles (epoch_of top)) old old new (λ (u : Unit {0}) (files : Files). ShowsOne (epoch_of top) n parent (s ∷ may) files)
       (going_started tells old n parent (view_of top) s may now_at fits) quiet at_now;
 }
+
+-- a read of the disk, which changes nothing, that is noted, that failed, and that was refused
+module _ {D : Type 0} (kind : Ghosts D) (image : Image D) (disk : D) (now_at : KnowsNow (kind.state image.disk))
+    (at_now : (files : Files) → Leaves (kind.state image.disk) files → (kind.state image.disk).left_at (kind.state image.disk).moment files)
+    (quiet : Quiet (kind.state image.disk) (kind.state disk)) (rise : kind.faults image.disk ≤ kind.faults disk) where
+  abbrev as_top : TopGoes kind.tells (kind.state image.disk) (kind.state disk) image.parts.top image.parts.top unchanged as_before
+  as_top = quiet-goes kind.tells (kind.state image.disk) (kind.state disk) image.parts.top now_at at_now quiet
+
+  pub reads-noted : (at count : ℕ) → at + count ≤ (parts_view image.parts).sectors
+      → Goes (seen kind image) (with_disk kind disk (record image.parts { steps = image.parts.steps + 1 })) (Some (Read at count))
+  reads-noted at count within =
+      goes-noted (seen kind image) (with_disk kind disk (record image.parts { steps = image.parts.steps + 1 })) unchanged as_before (Read at count)
+      (record { manifest = refl; lowers = refl; snapshot = refl }) refl refl as_top (λ b. refl) (λ b is. omega (arith, is, within))
+      (counts-clean (kind.faults image.disk) (kind.faults disk) (Read at count) refl rise) (keeps-before (Read at count) refl)
+
+  pub reads-failed : kind.faults image.disk < kind.faults disk
+      → Goes (seen kind image) (with_disk kind disk (record image.parts { steps = image.parts.steps + 1 })) (Some (Fault Nothing))
+  reads-failed rose =
+      goes-noted (seen kind image) (with_disk kind disk (record image.parts { steps = image.parts.steps + 1 })) unchanged as_before (Fault Nothing)
+      (record { manifest = refl; lowers = refl; snapshot = refl }) refl refl as_top (λ b. refl) (λ b is. tt)
+      (counts-fault (kind.faults image.disk) (kind.faults disk) (omega (arith, rose))) (keeps-before (Fault Nothing) refl)
+
+  pub reads-refused : Goes (seen kind image) (with_disk kind disk image.parts) None
+  reads-refused = goes-refused (seen kind image) (with_disk kind disk image.parts) (record { manifest = refl; lowers = refl; snapshot = refl }) refl refl refl rise as_top

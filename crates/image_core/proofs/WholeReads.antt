@@ -1,46 +1,49 @@
 -- What a read through the layers gives.
-use Rattle.std.proofs.Common.{◌≡◌, ℕ, ◌+◌, ◌*◌, ◌<◌, ◌≤◌, ◌⊎◌, Bool, List, [], ◌∷◌, ◌++◌, length, map, take, drop, refl, sym, ap, subst, ◌∙◌, arith, inl, inr}
+use Rattle.std.proofs.Common.{◌≡◌, ℕ, ◌+◌, ◌*◌, ◌<◌, ◌≤◌, ◌⊎◌, List, [], ◌∷◌, ◌++◌, length, map, take, drop, refl, sym, ap, subst, ◌∙◌, arith, inl, inr}
 use Rattle.std.specs.Prelude.{slice_index_or}
 use Rattle.std.specs.List.{range_with_len}
 use Rattle.std.proofs.lemmas.List.{append-nil, get_or-take, get_or-drop, length-drop, length-take-le}
 use Rattle.std.proofs.lemmas.List.Elements.{All-head, All-tail, All-take, All-drop}
 use Rattle.std.proofs.lemmas.List.FromFn.{get_or-map-range_with_len}
 use Rattle.sector_extent.specs.declared.extent.Extent.{Extent}
-use Rattle.block_disk.specs.DiskState.{DiskState}
 use Rattle.flat_image.specs.declared.base.Base.{Base}
 use Rattle.flat_image.specs.Sheets.{Cell, Hole, Zero, Filled, IsSector, IsImage, flat}
 use Rattle.flat_image.specs.RowCells.{sector_at}
 use Rattle.flat_image.specs.Base.{IsBase, image_of}
 use Rattle.flat_image.specs.LayerReading.{sheet_in}
 use Rattle.flat_image.specs.History.{History, now, after, reply}
-use Rattle.flat_image.proofs.HistoryLaws.{base-stays, after-is_image, base-is_image, now-lowers}
+use Rattle.flat_image.proofs.HistoryLaws.{base-stays, after-is_image, base-is_image, now-lowers, now-sectors}
 use Rattle.sealed_layer.specs.Layers.{LayerIndex}
 use Rattle.merged_index.specs.declared.piece.PieceWhat.{PieceWhat}
 use Rattle.merged_index.specs.declared.piece.PieceWhat.TheVariants as what
 use Rattle.merged_index.specs.Cells.{cells_of, IsIndexOf, NamesData}
 use Rattle.merged_index.specs.Painting.{AreFiles}
 use Rattle.merged_index.proofs.PaintLaws.{paints_as_sheets}
-use Rattle.top_writer.specs.Gaps.{Paints, IsHole, AreGaps}
-use Rattle.image_core.specs.declared.parts.Parts.{Parts}
+use Rattle.top_writer.specs.Gaps.{Paints, AreGaps}
 use Rattle.image_core.specs.Shows.{AreHeadsOf}
 use Rattle.image_core.specs.View.{AreLayersOf}
-use Rattle.image_core.specs.Parts.{parts_view, ImageStands}
+use Rattle.image_core.specs.Parts.{parts_view}
+use Rattle.image_core.specs.Seen.{Seen, StandsFor}
+use Rattle.image_core.specs.Upper.{upper, IsGap}
 use Rattle.image_core.specs.Pieces.{SnapshotView, IsSnapshotOf}
-use Rattle.image_core.specs.Planning.{IsPlanned}
+use Rattle.image_core.specs.Planning.{IsPlanned, ReadsBelow}
 use Rattle.image_core.specs.Whole.{sectors_by, AreFilled, AreOnShelf}
-use Rattle.image_core.specs.Loading.{HaveSize}
+use Rattle.flat_image.specs.Stacks.{HaveSize}
+use Rattle.lsmt_header.specs.declared.head.Head.{Head}
+use Rattle.image_core.specs.Loading.{heads_in}
 use Rattle.image_core.proofs.Planned.{plan-reads, holes-below}
 use Rattle.image_core.proofs.Reopening.{same-heads}
+use Rattle.image_core.proofs.SheetsRead.{layers-length}
 use Rattle.image_core.proofs.FilledSectors.{AreGapsFilled, gaps-filled, bytes-are}
 
 -- files of layers of one size are those of an index of the layers
-are-files : (n : ℕ) (files : List (List ℕ)) (layers : List LayerIndex) → AreLayersOf files layers → HaveSize n layers → AreFiles n files layers
+are-files : (n : ℕ) (files : List (List ℕ)) (layers : List LayerIndex) → AreLayersOf files layers → HaveSize n (heads_in layers) → AreFiles n files layers
 are-files n [] [] are sizes = tt
 are-files n [] (layer ∷ layers) are sizes = absurd are
 are-files n (file ∷ files) [] are sizes = absurd are
 are-files n (file ∷ files) (layer ∷ layers) are sizes =
-    let Size : LayerIndex → Type 0 = λ l. l.head.sectors ≡ n in
-    ((are.0, All-head Size layer layers sizes), are-files n files layers are.1 (All-tail Size layer layers sizes))
+    let Size : Head → Type 0 = λ h. h.sectors ≡ n in
+    ((are.0, All-head Size layer.head (heads_in layers) sizes), are-files n files layers are.1 (All-tail Size layer.head (heads_in layers) sizes))
 
 -- a snapshot without committed layers is of the lower ones
 index-of : (s : SnapshotView) (lowers : List LayerIndex) → IsSnapshotOf s lowers [] → IsIndexOf s.index lowers
@@ -60,14 +63,14 @@ hole-or Hole = inl refl
 hole-or Zero = inr (λ e. cc)
 hole-or (Filled sector) = inr (λ e. cc)
 
-module _ (tells : Bool) (disk : DiskState) (faults : ℕ) (p : Parts) (base : Base) (history : History) (s : SnapshotView) (at count : ℕ) (mid new : List ℕ) (gaps : List Extent)
-    (stands : ImageStands tells disk faults p base history) (is : IsSnapshotOf s p.lowers []) (within : at + count ≤ (parts_view p).sectors)
-    (are : AreGaps (IsHole (now base history).top) at (at + count) gaps) (filled : AreFilled (sectors_by base.lowers (cells_of s.index)) at gaps mid new) where
+module _ (x : Seen) (base : Base) (history : History) (s : SnapshotView) (at count : ℕ) (mid new : List ℕ) (gaps : List Extent)
+    (stands : StandsFor x base history) (is : IsSnapshotOf s x.parts.lowers []) (within : at + count ≤ (parts_view x.parts).sectors)
+    (are : AreGaps (IsGap (now base history)) at (at + count) gaps) (filled : AreFilled (sectors_by base.lowers (cells_of s.index)) at gaps mid new) where
   abbrev b : Base
   b = now base history
 
   abbrev n : ℕ
-  n = (parts_view p).sectors
+  n = (parts_view x.parts).sectors
 
   abbrev image : List (List ℕ)
   image = after base history
@@ -87,10 +90,10 @@ module _ (tells : Bool) (disk : DiskState) (faults : ℕ) (p : Parts) (base : Ba
   ground-is =
       let all : b.lowers ++ b.done ≡ b.lowers = ap (λ (d : List (List ℕ)). b.lowers ++ d) stands.fits.none_done ∙ append-nil b.lowers in
       let stack = stands.fits.sound.stack in
-      let heads : AreHeadsOf b.sectors b.lowers stack.heads = subst (λ (f : List (List ℕ)). AreHeadsOf b.sectors f stack.heads) all stack.are in
-      let sizes : HaveSize b.sectors p.lowers = (same-heads b.sectors b.lowers stack.heads p.lowers heads stands.fits.lowers).1 in
+      let heads : AreHeadsOf b.lowers stack.heads = subst (λ (f : List (List ℕ)). AreHeadsOf f stack.heads) all stack.are in
+      let sizes : HaveSize b.sectors (heads_in x.parts.lowers) = subst (HaveSize b.sectors) (same-heads b.lowers stack.heads x.parts.lowers heads stands.fits.lowers) stack.sizes in
       (λ i. flat (sectors i) (map sheet_in (sym lows i)))
-      ∙ paints_as_sheets b.sectors b.lowers p.lowers s.index (are-files b.sectors b.lowers p.lowers stands.fits.lowers sizes) (index-of s p.lowers is)
+      ∙ paints_as_sheets b.sectors b.lowers x.parts.lowers s.index (are-files b.sectors b.lowers x.parts.lowers stands.fits.lowers sizes) (index-of s x.parts.lowers is)
 
   ground-sector : (i : ℕ) → i < n → slice_index_or ground i [] ≡ sectors_by base.lowers (cells_of s.index) i
   ground-sector i below =
@@ -105,28 +108,28 @@ module _ (tells : Bool) (disk : DiskState) (faults : ℕ) (p : Parts) (base : Ba
       subst (λ (k : ℕ). IsImage k image) (sym sectors) (subst (IsImage b.sectors) same (base-is_image b good))
 
   -- what the gaps became
-  done : AreGapsFilled (sectors_by base.lowers (cells_of s.index)) (IsHole b.top) at at (at + count) mid new
-  done = gaps-filled (sectors_by base.lowers (cells_of s.index)) (IsHole b.top) at at (at + count) gaps mid new are filled
+  done : AreGapsFilled (sectors_by base.lowers (cells_of s.index)) (IsGap b) at at (at + count) mid new
+  done = gaps-filled (sectors_by base.lowers (cells_of s.index)) (IsGap b) at at (at + count) gaps mid new are filled
 
   none-done : base.lowers ++ b.done ≡ base.lowers
   none-done = ap (λ (d : List (List ℕ)). base.lowers ++ d) stands.fits.none_done ∙ append-nil base.lowers
 
-  pub whole-hole : (k : ℕ) → k < count → IsHole (now base history).top (at + k) → sector_at new k ≡ slice_index_or (after base history) (at + k) []
+  pub whole-hole : (k : ℕ) → k < count → IsGap (now base history) (at + k) → sector_at new k ≡ slice_index_or (after base history) (at + k) []
   whole-hole k below hole =
       done.holes k (omega arith) (omega (arith, below)) hole
-      ∙ sym (holes-below tells disk faults p base history (at + k) stands (omega (arith, below, within)) hole
+      ∙ sym (holes-below x base history stands (at + k) (omega (arith, below, within)) hole
       ∙ ap (λ (files : List (List ℕ)). slice_index_or (flat n (map sheet_in files)) (at + k) []) none-done
       ∙ ground-sector (at + k) (omega (arith, below, within)))
 
-  module _ (old : List ℕ) (size : length old ≡ 512 * count) (long : length new ≡ 512 * count) (paints : Paints (now base history).top at count old mid) where
-    planned : IsPlanned image ground (IsHole b.top) at count old mid
+  module _ (old : List ℕ) (size : length old ≡ 512 * count) (long : length new ≡ 512 * count) (paints : Paints (upper (now base history)) at count old mid) where
+    planned : IsPlanned image ground (IsGap b) at count old mid
     planned =
-        subst (λ (files : List (List ℕ)). IsPlanned image (flat n (map sheet_in files)) (IsHole b.top) at count old mid) none-done
-        (plan-reads tells disk faults p base history at count old mid stands size within paints)
+        subst (λ (files : List (List ℕ)). IsPlanned image (flat n (map sheet_in files)) (IsGap b) at count old mid) none-done
+        (plan-reads x base history stands at count old mid stands size within paints)
 
     sector : (k : ℕ) → k < count → sector_at new k ≡ slice_index_or image (at + k) []
     sector k below =
-        elim (hole-or (slice_index_or b.top (at + k) Hole)) [
+        elim (hole-or (slice_index_or (upper b) (at + k) Hole)) [
           | inl hole ↦ whole-hole k below hole
           | inr some ↦ done.others k (omega arith) (omega (arith, below)) some ∙ planned.read k below some
         ]
@@ -137,3 +140,52 @@ module _ (tells : Bool) (disk : DiskState) (faults : ℕ) (p : Parts) (base : Ba
         let part_long : length part ≡ count = length-take-le count (drop at image) (omega (arith, length-drop at image, image-is.count, within)) in
         bytes-are part new (All-take IsSector count (drop at image) (All-drop IsSector at image image-is.sectors)) (omega (arith, long, part_long))
         (λ k below. sector k (omega (arith, below, part_long)) ∙ sym (get_or-take count (drop at image) k [] (omega (arith, below, part_long)) ∙ get_or-drop at image k []))
+
+-- the image of the lower layers, as the index has it
+module _ (x : Seen) (base : Base) (history : History) (stands : StandsFor x base history) where
+  lower-sector : (s : SnapshotView) → IsSnapshotOf s x.parts.lowers [] → (i : ℕ) → i < (parts_view x.parts).sectors
+      → slice_index_or (flat (parts_view x.parts).sectors (map sheet_in base.lowers)) i [] ≡ sectors_by base.lowers (cells_of s.index) i
+  lower-sector s is i below =
+      let b = now base history in
+      let n : ℕ = (parts_view x.parts).sectors in
+      let sectors : n ≡ b.sectors = stands.fits.top.holds.sectors in
+      let lows : b.lowers ≡ base.lowers = now-lowers base history in
+      let all : b.lowers ++ b.done ≡ b.lowers = ap (λ (d : List (List ℕ)). b.lowers ++ d) stands.fits.none_done ∙ append-nil b.lowers in
+      let stack = stands.fits.sound.stack in
+      let heads : AreHeadsOf b.lowers stack.heads = subst (λ (f : List (List ℕ)). AreHeadsOf f stack.heads) all stack.are in
+      let sizes : HaveSize b.sectors (heads_in x.parts.lowers) = subst (HaveSize b.sectors) (same-heads b.lowers stack.heads x.parts.lowers heads stands.fits.lowers) stack.sizes in
+      let ground : flat n (map sheet_in base.lowers) ≡ map (sectors_by b.lowers (cells_of s.index)) (range_with_len 0 b.sectors) =
+      (λ i. flat (sectors i) (map sheet_in (sym lows i)))
+      ∙ paints_as_sheets b.sectors b.lowers x.parts.lowers s.index (are-files b.sectors b.lowers x.parts.lowers stands.fits.lowers sizes) (index-of s x.parts.lowers is) in
+      ap (λ (l : List (List ℕ)). slice_index_or l i []) ground
+      ∙ (get_or-map-range_with_len (sectors_by b.lowers (cells_of s.index)) 0 b.sectors i i [] (omega (arith, below, sectors)) (omega arith)
+      ∙ ap (λ (files : List (List ℕ)). sectors_by files (cells_of s.index) i) lows)
+
+  image-of-parts : IsImage (parts_view x.parts).sectors (after base history)
+  image-of-parts =
+      let b = now base history in
+      let good : IsBase b = (base-stays base history stands.base_is stands.few stands.proper).0 in
+      let same : image_of b ≡ after base history = after-is_image base history stands.base_is stands.few stands.proper in
+      subst (λ (k : ℕ). IsImage k (after base history)) (sym stands.fits.top.holds.sectors) (subst (IsImage b.sectors) same (base-is_image b good))
+
+-- what a snapshot says of the image in its gaps
+pub reads-below : (x : Seen) (base : Base) (history : History) (s : SnapshotView)
+    → StandsFor x base history → IsSnapshotOf s x.parts.lowers [] → ReadsBelow base history s
+reads-below x base history s stands is =
+    let b = now base history in
+    let n = (parts_view x.parts).sectors in
+    let sectors : n ≡ b.sectors = stands.fits.top.holds.sectors in
+    let size : b.sectors ≡ base.sectors = now-sectors base history in
+    let none : base.lowers ++ b.done ≡ base.lowers = ap (λ (d : List (List ℕ)). base.lowers ++ d) stands.fits.none_done ∙ append-nil base.lowers in
+    let files : length x.parts.lowers ≡ length base.lowers = sym (layers-length base.lowers x.parts.lowers (subst (λ (l : List (List ℕ)). AreLayersOf l x.parts.lowers) (now-lowers base history) stands.fits.lowers)) in
+    record {
+      lowers_are = is.lowers_are ∙ files;
+      none_done = stands.fits.none_done;
+      named = on-shelf s x.parts.lowers (length (base.lowers ++ b.done)) is (ap (λ (l : List (List ℕ)). length l) none ∙ sym files);
+      image = subst (λ (k : ℕ). IsImage k (after base history)) (sectors ∙ size) (image-of-parts x base history stands);
+      sectors = λ i below hole.
+          ap (λ (l : List (List ℕ)). sectors_by l (cells_of s.index) i) none
+          ∙ sym (holes-below x base history stands i (omega (arith, below, sectors, size)) hole
+          ∙ ap (λ (l : List (List ℕ)). slice_index_or (flat n (map sheet_in l)) i []) none
+          ∙ lower-sector x base history stands s is i (omega (arith, below, sectors, size)));
+    }

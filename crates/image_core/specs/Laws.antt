@@ -14,7 +14,7 @@ use Rattle.flat_image.specs.Left.{Blamed}
 use Rattle.top_writer.specs.Blank.{blank_sheet}
 use Rattle.image_core.specs.Shows.{AreSealed, Shows, IsNamed}
 use Rattle.image_core.specs.View.{CommitView, ImageView, HasKinds, sealed_read, sheets_read}
-use Rattle.image_core.specs.Standing.{ShowsLeft, StandsFor}
+use Rattle.image_core.specs.Standing.{ShowsLeft, ViewStands}
 use Rattle.image_core.specs.Keeping.{KeepsFor}
 
 -- what files show is a base, with few stretches
@@ -45,17 +45,17 @@ BlankHasKinds n table = ((i : ℕ) → n ≤ i → cell_in table i ≡ None) →
 
 -- What an image keeps makes it stand for its history.
 abbrev pub KeepsStands : Bool → DiskState → ℕ → ImageView → Base → History → Type 0
-KeepsStands tells disk faults v base history = KeepsFor tells disk faults v base history → StandsFor tells disk faults v base history
+KeepsStands tells disk faults v base history = KeepsFor tells disk faults v base history → ViewStands tells disk faults v base history
 
 -- the image after the history is that of what the history made, of as many sectors as the image has
 abbrev pub HistoryReads : Bool → DiskState → ℕ → ImageView → Base → History → Type 0
 HistoryReads tells disk faults v base history =
-    StandsFor tells disk faults v base history → (image_of (now base history) ≡ after base history) × IsImage v.sectors (after base history)
+    ViewStands tells disk faults v base history → (image_of (now base history) ≡ after base history) × IsImage v.sectors (after base history)
 
 -- where the disk tells, the sheets that the image reads, through its layers and its tables, make the image after the history
 abbrev pub ImageReads : Bool → DiskState → ℕ → ImageView → Base → History → Type 0
 ImageReads tells disk faults v base history =
-    StandsFor tells disk faults v base history → IsTrue tells → flat v.sectors (sheets_read disk.seen base.lowers v) ≡ after base history
+    ViewStands tells disk faults v base history → IsTrue tells → flat v.sectors (sheets_read disk.seen base.lowers v) ≡ after base history
 
 -- entries of the same kind: both none, both zero, or both a place
 abbrev pub AreAlike : Option What → Option What → Type 0
@@ -98,5 +98,5 @@ pub record ReadSame (lowers : List (List ℕ)) (files : Files) (v : ImageView) (
 -- a history over a base says all that an image that stands for it tells of itself, whatever its disk
 abbrev pub HistoryTells : Bool → DiskState → ℕ → ImageView → DiskState → ℕ → ImageView → Type 0
 HistoryTells tells disk faults v disk' faults' w =
-    (base : Base) (history : History) → StandsFor tells disk faults v base history → StandsFor tells disk' faults' w base history
+    (base : Base) (history : History) → ViewStands tells disk faults v base history → ViewStands tells disk' faults' w base history
     → TellSame v w × (IsTrue tells → ReadSame base.lowers disk.seen v disk'.seen w)

@@ -1,3 +1,4 @@
+pub mod Seen
 pub mod Creating
 pub mod FileSets
 pub mod Keeping
@@ -13,5 +14,6 @@ pub mod Planning
 pub mod Shows
 pub mod Standing
 pub mod Steps
+pub mod Upper
 pub mod View
 pub mod Whole

@@ -1,30 +1,29 @@
 -- Why files are no image without commits over lower layers: the first of these, in the order in which they are looked at.
-use Rattle.std.specs.Prelude.{◌≡◌, ℕ, ◌^◌, ◌<◌, ◌≤◌, List, [], length, map, All, Some, None, ◌⊎◌, Bool, IsTrue, ⊤}
+use Rattle.std.specs.Prelude.{◌≡◌, ℕ, ◌^◌, ◌<◌, ◌≤◌, List, [], length, map, Some, None, ◌⊎◌, IsTrue, ⊤}
 use Rattle.block_disk.specs.DiskState.{DiskState, Files}
 use Rattle.gate_mark.specs.MarkFile as marks
 use Rattle.lsmt_header.specs.declared.head.Head.{Head}
 use Rattle.lsmt_header.specs.Blocks.{IsSize, nil}
 use Rattle.sealed_layer.specs.Layers.{LayerIndex}
-use Rattle.flat_image.specs.Stacks.{Legal}
-use Rattle.layer_stack.specs.Faults.{top_uuid, IsStackFault}
+use Rattle.flat_image.specs.Stacks.{HaveSize, uppermost, Legal}
+use Rattle.layer_stack.specs.Faults.{IsStackFault}
 use Rattle.top_writer.specs.Files.{stored_in}
 use Rattle.top_writer.specs.Reasons.{IsReason}
 use Rattle.image_core.specs.declared.loading.LoadFault.{LoadFault}
 use Rattle.image_core.specs.declared.loading.LoadFault.TheVariants as why
-use Rattle.image_core.specs.declared.parts.Parts.{Parts}
 use Rattle.flat_image.specs.declared.base.Base.{Base}
 use Rattle.image_core.specs.Shows.{Shows, IsUnworn}
 use Rattle.image_core.specs.View.{AreLayersOf}
-use Rattle.image_core.specs.Parts.{ImageStands, IsLoaded}
+use Rattle.image_core.specs.Seen.{Seen, StandsFor, IsLoaded}
 use Rattle.image_core.specs.Numbers.{manifest_file}
 use Rattle.image_core.specs.Manifest.{count_said, epoch_said, uuid_said, size_said}
 
--- the heads of layers, and the uuid of the uppermost, or that of none
+-- the heads of layers, and the uuid of the uppermost
 abbrev pub heads_in : List LayerIndex → List Head
 heads_in layers = map (λ l. l.head) layers
 
 abbrev pub upper_uuid : List LayerIndex → List ℕ
-upper_uuid layers = top_uuid nil (heads_in layers)
+upper_uuid layers = uppermost (map (λ l. l.head.uuid) layers)
 
 -- the body of a manifest of an image in which nothing is committed, and no commit is in progress
 pub record IsBareBody (body : List ℕ) : Type 0 where
@@ -39,10 +38,6 @@ pub record HasManifest (files : Files) (body : List ℕ) : Type 0 where
   pub shows : marks.Shows sequence body (files manifest_file)
   pub low : sequence ≤ 2 ^ 61
 
--- the layers have n sectors each
-abbrev pub HaveSize : ℕ → List LayerIndex → Type 0
-HaveSize n layers = All (λ l. l.head.sectors ≡ n) layers
-
 -- they form a stack, or there are none
 abbrev pub AreStackOrNone : List LayerIndex → Type 0
 AreStackOrNone layers = 1 ≤ length layers → Legal (heads_in layers)
@@ -50,8 +45,8 @@ AreStackOrNone layers = 1 ≤ length layers → Legal (heads_in layers)
 -- lower layers are no stack of n sectors for this reason; of want of memory nothing is said
 abbrev pub IsLowersReason : ℕ → List LayerIndex → LoadFault → Type 0
 IsLowersReason n layers why.Memory = ⊤
-IsLowersReason n layers why.SizeDiffers = ¬ HaveSize n layers
-IsLowersReason n layers (why.Stack fault) = HaveSize n layers × (1 ≤ length layers) × IsStackFault (heads_in layers) fault
+IsLowersReason n layers why.SizeDiffers = ¬ HaveSize n (heads_in layers)
+IsLowersReason n layers (why.Stack fault) = HaveSize n (heads_in layers) × (1 ≤ length layers) × IsStackFault (heads_in layers) fault
 IsLowersReason n layers why.Failed = ⊥
 IsLowersReason n layers why.NoImage = ⊥
 IsLowersReason n layers (why.ManifestWorn sequence) = ⊥
@@ -68,7 +63,7 @@ IsLoadReason files layers why.ManifestBad = (body : List ℕ) × HasManifest fil
 IsLoadReason files layers why.SizeDiffers = (body : List ℕ) × HasManifest files body × IsBareBody body × IsLowersReason (size_said body) layers why.SizeDiffers
 IsLoadReason files layers (why.Stack fault) = (body : List ℕ) × HasManifest files body × IsBareBody body × IsLowersReason (size_said body) layers (why.Stack fault)
 IsLoadReason files layers (why.NoTop epoch reason) = (body : List ℕ) × HasManifest files body × IsBareBody body
-    × HaveSize (size_said body) layers × AreStackOrNone layers × (epoch ≡ 0) × IsReason (size_said body) (Some (upper_uuid layers)) (stored_in 0 files) reason
+    × HaveSize (size_said body) (heads_in layers) × AreStackOrNone layers × (epoch ≡ 0) × IsReason (size_said body) (Some (upper_uuid layers)) (stored_in 0 files) reason
 
 -- over the same lower layers no reason but want of memory and the disk's fault refuses files that show an image without
 -- commits, where no sequence is over 2^61
@@ -77,6 +72,6 @@ Reopens files b layers fault = (shows : Shows files b) → IsUnworn files b show
     → IsLoadReason files layers fault → (fault ≡ why.Memory) ⊎ (fault ≡ why.Failed)
 
 -- and an image that is loaded of them stands for that one
-abbrev pub ReopensAs : Bool → DiskState → DiskState → ℕ → Parts → Base → Type 0
-ReopensAs tells old new faults p b = IsLoaded tells old new faults b.lowers p → IsTrue tells → Shows old.seen b
-    → ImageStands tells new faults p (record b { faults = faults }) []
+abbrev pub ReopensAs : DiskState → Seen → Base → Type 0
+ReopensAs old image b = IsLoaded old b.lowers image → IsTrue image.tells → Shows old.seen b
+    → StandsFor image (record b { faults = image.faults }) []

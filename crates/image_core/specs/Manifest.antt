@@ -1,6 +1,6 @@
 -- The body of the manifest's mark: how many layers are committed, the epoch of the top, the uuid of the commit in
 -- progress, and the sectors of the image.
-use Rattle.std.specs.Prelude.{◌≡◌, ◌≢◌, ℕ, List, take, drop, Option, Some, None, IfSome}
+use Rattle.std.specs.Prelude.{◌≡◌, ◌≢◌, ℕ, List, take, drop, replicate, Option, Some, None, IfSome}
 use Rattle.std.specs.Int.{w64, from_le_bytes}
 use Rattle.lsmt_header.specs.Blocks.{nil}
 use Rattle.image_core.specs.Numbers.{with_pending}
@@ -30,3 +30,12 @@ pub record Names (body : List ℕ) (done : ℕ) (pending : Option (List ℕ)) (n
   pub uuid : uuid_said body ≡ uuid_or_nil pending
   pub named : IfSome pending (λ u. u ≢ nil)
   pub size : size_said body ≡ n
+
+-- the last 8 bytes of a body, which nobody looks at
+abbrev pub spare_in : List ℕ → List ℕ
+spare_in body = drop 40 body
+
+-- a body that is written says so, and its last 8 bytes are zeros
+pub record IsWritten (body : List ℕ) (done : ℕ) (pending : Option (List ℕ)) (n : ℕ) : Type 0 where
+  pub names : Names body done pending n
+  pub spare : spare_in body ≡ replicate {A = ℕ} 8 0

@@ -2,20 +2,20 @@
 -- was tried.
 use Rattle.std.specs.Prelude.{◌≡◌, ℕ, ◌⊎◌, List, Contains}
 use Rattle.block_disk.specs.DiskState.{Files}
-use Rattle.flat_image.specs.declared.act.Asked.TheVariants.{Uuid}
+use Rattle.flat_image.specs.declared.act.Asked.{Asked}
 use Rattle.flat_image.specs.declared.base.Base.{Base}
 use Rattle.flat_image.specs.History.{History, now}
-use Rattle.flat_image.specs.Left.{Stand, stand, put_top, Kept, Blamed, Advances}
+use Rattle.flat_image.specs.Left.{Stand, stand, put_top, Kept, Advances}
 use Rattle.image_core.specs.Shows.{Shows}
 
--- the image with one of these tops, or that as a freeze or a seal of one of these uuids would have made it
-pub record MayBe (b : Base) (tops : List Stand) (attempts : List (List ℕ)) (c : Base) : Type 0 where
+-- the image with one of these tops, or that as one of these steps that were tried would have made it
+pub record MayBe (b : Base) (tops : List Stand) (attempts : List Asked) (c : Base) : Type 0 where
   pub top : Stand
   pub among : Contains tops top
-  pub is : (c ≡ put_top b top) ⊎ ((uuid : List ℕ) × Contains attempts uuid × Advances (put_top b top) (Uuid uuid) c)
+  pub is : (c ≡ put_top b top) ⊎ ((asked : Asked) × Contains attempts asked × Advances (put_top b top) asked c)
 
 -- the files show such an image
-pub record ShowsMayBe (b : Base) (tops : List Stand) (attempts : List (List ℕ)) (files : Files) : Type 0 where
+pub record ShowsMayBe (b : Base) (tops : List Stand) (attempts : List Asked) (files : Files) : Type 0 where
   pub found : Base
   pub shows : Shows files found
   pub may_be : MayBe b tops attempts found
@@ -25,6 +25,3 @@ pub record KeptStand (base : Base) (history : History) (s : Stand) : Type 0 wher
   pub front : History
   pub kept : Kept history front
   pub is : s ≡ stand (now base front)
-
-abbrev pub BlamedFor : History → List ℕ → Type 0
-BlamedFor history uuid = Blamed history (Uuid uuid)

@@ -9,7 +9,7 @@ use Rattle.flat_image.specs.Sheets.{Cell}
 use Rattle.flat_image.specs.Frozen.{Frozen}
 use Rattle.flat_image.specs.LayerFiles.{LayerFile}
 use Rattle.flat_image.specs.LayerReading.{uuid_in}
-use Rattle.flat_image.specs.Stacks.{Legal}
+use Rattle.flat_image.specs.Stacks.{HaveSize, Legal}
 use Rattle.flat_image.specs.Base.{pending_of, top_uuid}
 use Rattle.flat_image.specs.Left.{Stand, stand}
 use Rattle.top_writer.specs.Files.{stored_in, TopFiles}
@@ -21,23 +21,23 @@ use Rattle.image_core.specs.Manifest.{Names}
 abbrev pub epoch_of : Base → ℕ
 epoch_of b = with_pending (length b.done) (pending_of b.frozen)
 
--- the file is that of a layer of n sectors with this head
-pub record IsHeadOf (n : ℕ) (file : List ℕ) (head : Head) : Type 0 where
+-- the file is that of a layer with this head
+pub record IsHeadOf (file : List ℕ) (head : Head) : Type 0 where
   pub sheet : List Cell
   pub layer : LayerFile file head sheet
-  pub size : head.sectors ≡ n
 
--- each file is that of a layer of n sectors, with its head
-abbrev pub AreHeadsOf : ℕ → List (List ℕ) → List Head → Type 0
-AreHeadsOf n [] [] = Unit {0}
-AreHeadsOf n [] (head ∷ heads) = ⊥
-AreHeadsOf n (file ∷ files) [] = ⊥
-AreHeadsOf n (file ∷ files) (head ∷ heads) = IsHeadOf n file head × AreHeadsOf n files heads
+-- each file is that of a layer, with its head
+abbrev pub AreHeadsOf : List (List ℕ) → List Head → Type 0
+AreHeadsOf [] [] = Unit {0}
+AreHeadsOf [] (head ∷ heads) = ⊥
+AreHeadsOf (file ∷ files) [] = ⊥
+AreHeadsOf (file ∷ files) (head ∷ heads) = IsHeadOf file head × AreHeadsOf files heads
 
 -- the files, the lowest first, are those of layers of n sectors that form a stack, or there are none
 pub record AreStack (n : ℕ) (files : List (List ℕ)) : Type 0 where
   pub heads : List Head
-  pub are : AreHeadsOf n files heads
+  pub are : AreHeadsOf files heads
+  pub sizes : HaveSize n heads
   pub legal : 1 ≤ length files → Legal heads
 
 -- the parent that the first top names: the uppermost of the lowers. No other top is asked for one.
@@ -45,7 +45,11 @@ abbrev pub parent_asked : ℕ → List (List ℕ) → Option (List ℕ)
 parent_asked zero lowers = Some (top_uuid lowers)
 parent_asked (suc epoch) lowers = None
 
--- the files of the epoch show the top of an image of n sectors
+-- the sectors that the head of a top of an image names
+abbrev pub head_sectors : Base → ℕ
+head_sectors b = b.sectors
+
+-- the files of the epoch show a top whose head names n sectors
 abbrev pub ShowsStand : ℕ → ℕ → List (List ℕ) → Stand → Files → Type 0
 ShowsStand epoch n lowers s files = ShowsTop n (parent_asked epoch lowers) s (stored_in epoch files)
 
@@ -82,18 +86,19 @@ pub record Shows (files : Files) (base : Base) : Type 0 where
   pub names : Names body (length base.done) (pending_of base.frozen) base.sectors
   pub sound : IsSound base
   pub done : AreSealed base.done files
-  pub frozen : ShowsFrozen (length base.done) base.sectors base.lowers base.frozen files
-  pub top : ShowsStand (epoch_of base) base.sectors base.lowers (stand base) files
+  pub frozen : ShowsFrozen (length base.done) (head_sectors base) base.lowers base.frozen files
+  pub top : ShowsStand (epoch_of base) (head_sectors base) base.lowers (stand base) files
 
 -- the mark of the frozen top, where there is one, has a sequence of at most 2^61
-abbrev pub IsFrozenUnworn : (epoch n : ℕ) (lowers : List (List ℕ)) (frozen : Option Frozen) (files : Files) → ShowsFrozen epoch n lowers frozen files → Type 0
+abbrev pub IsFrozenUnworn : (epoch n : ℕ) (lowers : List (List ℕ)) (frozen : Option Frozen) (files : Files)
+    → ShowsFrozen epoch n lowers frozen files → Type 0
 IsFrozenUnworn epoch n lowers None files shows = Unit {0}
 IsFrozenUnworn epoch n lowers (Some f) files shows = shows.shows.sequence ≤ 2 ^ 61
 
 -- neither the manifest nor a mark of a top has a sequence over 2^61
 pub record IsUnworn (files : Files) (base : Base) (shows : Shows files base) : Type 0 where
   pub manifest : shows.sequence ≤ 2 ^ 61
-  pub frozen : IsFrozenUnworn (length base.done) base.sectors base.lowers base.frozen files shows.frozen
+  pub frozen : IsFrozenUnworn (length base.done) (head_sectors base) base.lowers base.frozen files shows.frozen
   pub top : shows.top.sequence ≤ 2 ^ 61
 
 -- the file is one of the frozen top's, where there is one

@@ -15,7 +15,7 @@ pub record ShowsLeft (base : Base) (history : History) (files : Files) : Type 0 
   pub left : Left base history found
 
 -- The image in memory, with a disk in this state and with this count of faults, stands for the history over the base.
-pub record StandsFor (tells : Bool) (disk : DiskState) (faults : ℕ) (v : ImageView) (base : Base) (history : History) : Type 0 where
+pub record ViewStands (tells : Bool) (disk : DiskState) (faults : ℕ) (v : ImageView) (base : Base) (history : History) : Type 0 where
   pub base_is : IsBase base
   pub few : HasFewStretches base
   pub proper : Proper base history

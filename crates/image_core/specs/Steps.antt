@@ -1,7 +1,7 @@
 -- Lists of steps of an image: when they may be asked for, what they note, and what their replies say.
 use Rattle.std.specs.Prelude.{◌≡◌, ℕ, ◌+◌, ◌*◌, ◌≤◌, ◌↔◌, List, [], ◌∷◌, ◌++◌, length, drop, replicate, All, Bool, IsTrue, Option, Some, None, Result, Err, OnOk, IsErrOf, ⊤}
-use Rattle.block_disk.specs.DiskState.{DiskState, Files}
-use Rattle.block_disk.specs.Claims.{LeavesOnly}
+use Rattle.sector_extent.specs.Causes.{Charges}
+use Rattle.block_disk.specs.declared.disk.Disk.{Ghosts}
 use Rattle.sector_extent.specs.declared.extent.Extent.{Extent}
 use Rattle.sector_extent.specs.Rows.{rows_for}
 use Rattle.flat_image.specs.declared.act.Act.{Act}
@@ -10,20 +10,21 @@ use Rattle.flat_image.specs.declared.base.Base.{Base}
 use Rattle.flat_image.specs.Sheets.{Cell}
 use Rattle.flat_image.specs.Base.{pending_of}
 use Rattle.flat_image.specs.Entries.{entry}
-use Rattle.flat_image.specs.History.{History, now, fault_count, IsOver}
+use Rattle.flat_image.specs.History.{History, now, is_fault, IsOver}
 use Rattle.top_writer.specs.declared.fault.WriteFault.{WriteFault}
 use Rattle.top_writer.specs.declared.fault.WriteFault.TheVariants.{Full, Failed}
 use Rattle.top_writer.specs.declared.fault.ReadFault.{ReadFault}
 use Rattle.top_writer.specs.Gaps.{Paints, IsHole, AreGaps}
-use Rattle.image_core.specs.declared.parts.Parts.{Parts}
+use Rattle.image_core.specs.declared.image.Image.{Image}
 use Rattle.image_core.specs.declared.status.Status as statuses
 use Rattle.image_core.specs.declared.steps.Step.{Step}
 use Rattle.image_core.specs.declared.steps.Step.TheVariants.{Plan, Write, Zero, Flush, Status}
 use Rattle.image_core.specs.declared.steps.Numbered.{Numbered}
 use Rattle.image_core.specs.declared.steps.Reply.{Reply}
 use Rattle.image_core.specs.declared.steps.Reply.TheVariants.{Planned, Wrote, Zeroed, Flushed, Now}
-use Rattle.image_core.specs.Standing.{ShowsLeft}
-use Rattle.image_core.specs.Parts.{ImageStands, Goes, noted_change, noted_call, noted_read}
+use Rattle.image_core.specs.Parts.{noted_change, noted_call, noted_read}
+use Rattle.image_core.specs.Seen.{Seen, seen, StandsFor, Goes}
+use Rattle.image_core.specs.Upper.{upper}
 
 -- the step may be asked for of an image of n sectors
 abbrev pub MayStep : ℕ → Step → Type 0
@@ -62,12 +63,12 @@ pub record IsRefusedFull {T : Type 0} (rows filled more_rows more_filled : ℕ) 
   pub just : IsOver more_rows more_filled ↔ (outcome ≡ Err (Full rows filled))
   pub only : (r f : ℕ) → outcome ≡ Err (Full r f) → (r ≡ rows) × (f ≡ filled)
 
--- what a plan replies of a top: bytes of the extent, zeros with what the top paints over them where it was read, and the
--- top's holes as gaps
-pub record IsPlanReply {T : Type 0} (tells : Bool) (top : List Cell) (e : Extent) (outcome : Result T ReadFault) (bytes : List ℕ) (gaps : List Extent) : Type 0 where
+-- what a plan replies of an image with this upper part: bytes of the extent, zeros with what the upper part paints over
+-- them where it was read, and its holes as gaps
+pub record IsPlanReply {T : Type 0} (tells : Bool) (cells : List Cell) (e : Extent) (outcome : Result T ReadFault) (bytes : List ℕ) (gaps : List Extent) : Type 0 where
   pub size : length bytes ≡ 512 * e.count
-  pub read : OnOk outcome (IsTrue tells → Paints top e.at e.count (replicate {A = ℕ} (512 * e.count) 0) bytes)
-  pub holes : OnOk outcome (AreGaps (IsHole top) e.at (e.at + e.count) gaps)
+  pub read : OnOk outcome (IsTrue tells → Paints cells e.at e.count (replicate {A = ℕ} (512 * e.count) 0) bytes)
+  pub holes : OnOk outcome (AreGaps (IsHole cells) e.at (e.at + e.count) gaps)
 
 -- what a status says of an image that is made of b
 pub record IsTold (b : Base) (s : statuses.Status) : Type 0 where
@@ -77,7 +78,7 @@ pub record IsTold (b : Base) (s : statuses.Status) : Type 0 where
 
 -- what a step may reply of an image that is made of b
 abbrev pub IsReply : Bool → Base → Step → Reply → Type 0
-IsReply tells b (Plan e) (Planned outcome bytes gaps) = IsPlanReply tells b.top e outcome bytes gaps
+IsReply tells b (Plan e) (Planned outcome bytes gaps) = IsPlanReply tells (upper b) e outcome bytes gaps
 IsReply tells b (Write e bytes) (Wrote outcome) = IsRefusedFull b.rows b.filled (b.rows + rows_for e.count) (b.filled + e.count) outcome
 IsReply tells b (Zero e) (Zeroed outcome) =
     IsRefusedFull b.rows b.filled (b.rows + rows_for e.count) b.filled outcome × (IsErrOf outcome Failed → ⊥)
@@ -95,30 +96,32 @@ AreReplies tells base history (s ∷ list) (reply ∷ replies) =
     IsReply tells (now base history) s.step reply
     × AreReplies tells base (history ++ noted_as s.number (noted_with s.step reply)) list replies
 
--- a beginning of what is noted
-pub record Beginning (noted : History) : Type 0 where
-  pub front : History
-  pub rest : History
-  pub splits : noted ≡ front ++ rest
-
--- Steps that note these entries. Whatever the image stood for, it stands then for the history with them behind it. At
--- each moment a crash leaves what that history leaves with some beginning of them. Each fault that is noted is one that
--- the disk counted.
-pub record GoesBy (tells : Bool) (old new : DiskState) (faults later : ℕ) (p q : Parts) (noted : History) : Type 0 where
-  pub stands : (base : Base) (history : History) → ImageStands tells old faults p base history
-      → ImageStands tells new later q base (history ++ noted)
-  pub any_moment : (base : Base) (history : History) → ImageStands tells old faults p base history
-      → LeavesOnly old new (λ (b : Beginning noted) (files : Files). ShowsLeft base (history ++ b.front) files)
-  pub failed : faults + fault_count noted ≤ later
-
 -- the replies that were added behind the old ones
 abbrev pub added : List Reply → List Reply → List Reply
 added old new = drop (length old) new
 
+-- what is noted is a fault
+abbrev pub NotesFault : Option Act → Type 0
+NotesFault None = ⊥
+NotesFault (Some act) = IsTrue (is_fault act)
+
+-- a step that is made, with its reply: what it makes of the image, what it replies of it, and that the disk counted a fault
+-- just where it notes one
+pub record Makes (old new : Seen) (s : Numbered) (reply : Reply) : Type 0 where
+  pub goes : Goes old new (noted_with s.step reply)
+  pub right : (base : Base) (history : History) → StandsFor old base history → IsReply old.tells (now base history) s.step reply
+  pub cause : Charges {S = ℕ} (λ count. count) old.faults new.faults (NotesFault (noted_with s.step reply))
+
+-- The first steps of a list were made one after another, each from the image that the one before it left, and got these
+-- replies.
+abbrev pub GoesBy : {D : Type 0} → Ghosts D → Image D → Image D → List Numbered → List Reply → Type 0
+GoesBy kind old new list [] = new ≡ old
+GoesBy kind old new [] (reply ∷ replies) = ⊥
+GoesBy {D} kind old new (s ∷ list) (reply ∷ replies) =
+    (mid : Image D) × Makes (seen kind old) (seen kind mid) s reply × GoesBy kind mid new list replies
+
 -- one step that is made, and its reply behind the old ones
-pub record Makes (tells : Bool) (old new : DiskState) (faults later : ℕ) (p q : Parts) (s : Numbered) (before after : List Reply) : Type 0 where
+pub record MakesNext (old new : Seen) (s : Numbered) (before after : List Reply) : Type 0 where
   pub reply : Reply
   pub behind : after ≡ before ++ reply ∷ []
-  pub goes : Goes tells old new faults later p q (noted_with s.step reply)
-  pub right : (base : Base) (history : History) → ImageStands tells old faults p base history → IsReply tells (now base history) s.step reply
-  pub failed : (number : ℕ) → faults + fault_count (noted_as number (noted_with s.step reply)) ≤ later
+  pub makes : Makes old new s reply

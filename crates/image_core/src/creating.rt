@@ -1,18 +1,19 @@
 //! Making an image.
 ghost use Rattle.std.specs.Prelude.{◌≡◌, ◌≢◌, ℕ, ◌+◌, ◌<◌, ◌≤◌, List, [], length, map, None, IsTrue, IfOk, OnOk, IsErrOf, slice_index_or};
 ghost use Rattle.std.specs.Arc.{arc_value};
-ghost use Rattle.sector_extent.specs.Causes.{HasCause};
+ghost use Rattle.sector_extent.specs.Causes.{Charges};
 ghost use Rattle.lsmt_header.specs.Blocks.{IsSize, nil};
 ghost use Rattle.gate_mark.specs.MarkFile.{mark_of};
 ghost use Rattle.block_disk.specs.Claims.{Quiet};
 ghost use Rattle.sealed_layer.specs.Layers.{LayerIndex};
 ghost use Rattle.top_writer.specs.View.{sectors_of};
 ghost use Rattle.image_core.specs.declared.creating.CreateFault.TheVariants as faults;
+ghost use Rattle.image_core.specs.Loading.{upper_uuid};
 ghost use Rattle.image_core.specs.Numbers.{manifest_file};
 ghost use Rattle.image_core.specs.View.{AreLayersOf};
 ghost use Rattle.image_core.specs.Pieces.{IsSnapshotOf};
-ghost use Rattle.image_core.specs.Parts.{ImageStands};
-ghost use Rattle.image_core.specs.Creating.{AreLegal, fresh_at, TellsExists};
+ghost use Rattle.image_core.specs.Seen.{with_disk, StandsFor};
+ghost use Rattle.image_core.specs.Creating.{AreLegal, fresh_at, TellsExists, IsNewManifest, IsMadeLast};
 
 use crate::manifest::new_body;
 use crate::parts::{LayerList, Parts};
@@ -42,8 +43,7 @@ pub enum CreateFault {
 
 // The uuid of the uppermost layer, or that of none.
 pub(crate) fn parent_of(lowers: &[Layer]) -> [u8; 16]
-    ensures none { length lowers.now ≡ 0 → result ≡ nil }
-    ensures some { (d : LayerIndex) (i : ℕ) → i + 1 ≡ length lowers.now → result ≡ (slice_index_or lowers.now i d).head.uuid }
+    ensures { result ≡ upper_uuid lowers.now }
 {
     if lowers.is_empty() {
         return [0; 16];
@@ -66,8 +66,7 @@ fn check_new<D: Disk>(disk: &mut D) -> Result<(), CreateFault>
     ensures exists { IsTrue D.tells → TellsExists ((D.state disk.old).seen manifest_file) result }
     ensures no_memory { IsErrOf result faults.Memory → ⊥ }
     ensures quiet { Quiet (D.state disk.old) (D.state disk.new) }
-    ensures failed { IsErrOf result faults.Failed → D.faults disk.old < D.faults disk.new }
-    ensures later { D.faults disk.old ≤ D.faults disk.new }
+    ensures cause { Charges D.faults disk.old disk.new (IsErrOf result faults.Failed) }
 {
     match Mark::load(disk, MANIFEST) {
         Ok(_) => Err(CreateFault::Exists),
@@ -89,14 +88,17 @@ impl Parts {
         requires lowers { AreLegal sectors lowers }
         requires size { IsSize sectors }
         ensures stands { IfOk result (λ parts. (files : List (List ℕ)) → AreLayersOf files lowers
-            → ImageStands D.tells (D.state disk.new) (D.faults disk.new) parts (fresh_at sectors files (D.faults disk.new)) []) }
-        ensures frame { IfOk result (λ parts. (parts.lowers ≡ lowers) × (parts.steps ≡ 0) × (sectors_of parts.top ≡ sectors)) }
+            → StandsFor (with_disk D.Disk disk.new parts) (fresh_at sectors files (D.faults disk.new)) []) }
+        ensures frame { IfOk result (λ parts.
+            (parts.lowers ≡ lowers) × (parts.steps ≡ 0) × (sectors_of parts.top ≡ sectors)) }
         ensures exists { IsTrue D.tells → TellsExists ((D.state disk.old).seen manifest_file) result }
-        ensures failed { IsErrOf result faults.Failed → D.faults disk.old < D.faults disk.new }
-        ensures later { D.faults disk.old ≤ D.faults disk.new }
+        ensures cause { Charges D.faults disk.old disk.new (IsErrOf result faults.Failed) }
         ensures untouched { IsErrOf result faults.Exists → Quiet (D.state disk.old) (D.state disk.new) }
         ensures unbegun { IsErrOf result faults.Memory → Quiet (D.state disk.old) (D.state disk.new) }
-        ensures kept { IsTrue D.tells → mark_of ((D.state disk.old).seen manifest_file) ≢ None → Quiet (D.state disk.old) (D.state disk.new) }
+        ensures manifest { IfOk result (λ parts. IsNewManifest sectors (with_disk D.Disk disk.new parts)) }
+        ensures last { IsMadeLast sectors (upper_uuid lowers) (D.state disk.old) (D.state disk.new) }
+        ensures kept { IsTrue D.tells → mark_of ((D.state disk.old).seen manifest_file) ≢ None
+            → Quiet (D.state disk.old) (D.state disk.new) }
     {
         check_new(disk)?;
         let Ok(snapshot) = snapshot_of(alloc, lowers.as_slice()) else {

@@ -1,7 +1,8 @@
 //! The image with its disk.
-ghost use Rattle.std.specs.Prelude.{◌≡◌, ◌≢◌, ℕ, ◌+◌, ◌*◌, ◌^◌, ◌<◌, ◌≤◌, ◌⊎◌, ◌↔◌, List, [], length, Option, Err, None, IsTrue, IfSome, IfOk, IfErr, OnOk, OnErr, MatchResult, IsErrOf};
+ghost use Rattle.std.specs.Prelude.{◌≡◌, ◌≢◌, ℕ, ◌+◌, ◌*◌, ◌^◌, ◌<◌, ◌≤◌, ◌⊎◌, ◌↔◌, List, []};
+ghost use Rattle.std.specs.Prelude.{length, Option, Err, None, IsTrue, IfSome, IfOk, IfErr};
+ghost use Rattle.std.specs.Prelude.{OnOk, OnErr, MatchResult, IsErrOf, IsErr};
 ghost use Rattle.std.specs.Arc.{arc_value};
-ghost use Rattle.sector_extent.specs.Causes.{HasCause};
 ghost use Rattle.sector_extent.specs.Rows.{rows_for};
 ghost use Rattle.lsmt_header.specs.Blocks.{IsSize};
 ghost use Rattle.gate_mark.specs.MarkFile.{mark_of};
@@ -10,20 +11,25 @@ ghost use Rattle.flat_image.specs.History.{History, now, IsOver};
 ghost use Rattle.flat_image.specs.declared.base.Base as bases;
 ghost use Rattle.top_writer.specs.declared.fault.WriteFault.TheVariants.{Full, Failed};
 ghost use Rattle.top_writer.specs.declared.fault.ReadFault.TheVariants as reads;
-ghost use Rattle.top_writer.specs.Gaps.{Paints, IsHole, AreGaps};
+ghost use Rattle.top_writer.specs.Gaps.{Paints, AreGaps};
 ghost use Rattle.image_core.specs.declared.creating.CreateFault.TheVariants as faults;
 ghost use Rattle.image_core.specs.declared.loading.LoadFault.TheVariants as why;
-ghost use Rattle.image_core.specs.Loading.{IsLoadReason};
+ghost use Rattle.image_core.specs.Loading.{IsLoadReason, upper_uuid};
 ghost use Rattle.block_disk.specs.Claims.{Quiet};
 ghost use Rattle.image_core.specs.Numbers.{manifest_file};
 ghost use Rattle.image_core.specs.Shows.{Shows, IsUnworn};
 ghost use Rattle.image_core.specs.View.{AreLayersOf};
 ghost use Rattle.image_core.specs.Opening.{lowers_from};
-ghost use Rattle.image_core.specs.Pieces.{IsSnapshotOf, IsStatusOf};
-ghost use Rattle.image_core.specs.Planning.{IsPlanOf};
-ghost use Rattle.image_core.specs.Standing.{StandsFor};
-ghost use Rattle.image_core.specs.Parts.{parts_view, ImageStands, IsLoaded, IsOpened, IsStanding, Goes, noted_change, noted_call, noted_read};
-ghost use Rattle.image_core.specs.Creating.{AreLegal, fresh_at};
+ghost use Rattle.image_core.specs.Pieces.{SnapshotView, IsSnapshotOf, IsStatusOf};
+ghost use Rattle.image_core.specs.Planning.{IsPlanOf, ReadsBelow};
+ghost use Rattle.image_core.specs.Parts.{noted_change, noted_call, noted_read};
+ghost use Rattle.image_core.specs.Seen.{seen, view, faults_in, disk_of, IsImage, StandsFor, Goes, Rests};
+ghost use Rattle.image_core.specs.Seen.{IsLoaded, IsOpened};
+ghost use Rattle.image_core.specs.Standing.{ViewStands};
+ghost use Rattle.image_core.specs.Steps.{IsTold};
+ghost use Rattle.image_core.specs.Upper.{upper, IsGap};
+ghost use Rattle.sector_extent.specs.Causes.{Charges};
+ghost use Rattle.image_core.specs.Creating.{AreLegal, fresh_at, IsNewManifest, IsMadeLast};
 
 use crate::creating::CreateFault;
 use crate::loading::LoadFault;
@@ -46,13 +52,11 @@ pub struct Image<D: Disk> {
 }
 
 impl<D: Disk> Stands for Image<D> {
-    ghost use Rattle.image_core.specs.Parts.{ImageStands};
-
     type Act = Act;
 
     type Base = Base;
 
-    ghost stands = { λ image base _ history. ImageStands D.tells (D.state image.disk) (D.faults image.disk) image.parts base history };
+    ghost stands = { λ image base _ history. StandsFor (seen D.Disk image) base history };
 }
 
 impl<D: Disk> Image<D> {
@@ -68,21 +72,34 @@ impl<D: Disk> Image<D> {
         requires lowers { AreLegal sectors lowers }
         requires size { IsSize sectors }
         ensures stands { IfOk result (λ image. (files : List (List ℕ)) → AreLayersOf files lowers
-            → ⟦<Image<D> as Stands>⟧.stands image (fresh_at sectors files (D.faults image.disk)) 0 []) }
+            → StandsFor (seen D.Disk image) (fresh_at sectors files (faults_in D.Disk image)) []) }
         // and so where no files are told: the layers are those of files with zeros as data
-        ensures starts { IfOk result (λ image. (told : Option (List (List ℕ))) → IfSome told (λ files. AreLayersOf files lowers)
-            → ⟦<Image<D> as Stands>⟧.stands image (fresh_at sectors (lowers_from told lowers) (D.faults image.disk)) 0 []) }
-        ensures standing { IfOk result (λ image. IsStanding D.tells (D.state image.disk) (D.faults image.disk) image.parts) }
-        ensures frame { IfOk result (λ image. ((parts_view image.parts).lowers ≡ lowers) × ((parts_view image.parts).steps ≡ 0) × ((parts_view image.parts).sectors ≡ sectors)) }
-        ensures exists { IfErr result (λ refusal. IsTrue D.tells → refusal.1 ≡ faults.Exists → mark_of ((D.state disk).seen manifest_file) ≢ None) }
+        ensures starts { IfOk result (λ image. (told : Option (List (List ℕ)))
+            → IfSome told (λ files. AreLayersOf files lowers)
+            → StandsFor (seen D.Disk image) (fresh_at sectors (lowers_from told lowers) (faults_in D.Disk image)) []) }
+        ensures standing { IfOk result (λ image. IsImage (seen D.Disk image)) }
+        ensures frame { IfOk result (λ image.
+            ((view image).lowers ≡ lowers) × ((view image).steps ≡ 0) × ((view image).sectors ≡ sectors)) }
+        ensures exists { IfErr result (λ refusal. IsTrue D.tells → refusal.1 ≡ faults.Exists
+            → mark_of ((D.state disk).seen manifest_file) ≢ None) }
         ensures new { OnOk result (IsTrue D.tells → mark_of ((D.state disk).seen manifest_file) ≡ None) }
-        ensures always { IsTrue D.tells → mark_of ((D.state disk).seen manifest_file) ≢ None → IfErr result (λ refusal. (refusal.1 ≡ faults.Exists) ⊎ (refusal.1 ≡ faults.Failed)) }
-        ensures failed { IfErr result (λ refusal. refusal.1 ≡ faults.Failed → D.faults disk < D.faults refusal.0) }
-        ensures later { MatchResult result (λ image. D.faults disk ≤ D.faults image.disk) (λ refusal. D.faults disk ≤ D.faults refusal.0) }
-        ensures untouched { IfErr result (λ refusal. refusal.1 ≡ faults.Exists → Quiet (D.state disk) (D.state refusal.0)) }
-        ensures unbegun { IfErr result (λ refusal. refusal.1 ≡ faults.Memory → Quiet (D.state disk) (D.state refusal.0)) }
+        ensures always { IsTrue D.tells → mark_of ((D.state disk).seen manifest_file) ≢ None
+            → IfErr result (λ refusal. (refusal.1 ≡ faults.Exists) ⊎ (refusal.1 ≡ faults.Failed)) }
+        ensures cause { MatchResult result (λ image. faults_in D.Disk image ≡ D.faults disk)
+            (λ refusal. Charges D.faults disk refusal.0 (refusal.1 ≡ faults.Failed)) }
+        ensures untouched { IfErr result (λ refusal. refusal.1 ≡ faults.Exists
+            → Quiet (D.state disk) (D.state refusal.0)) }
+        ensures unbegun { IfErr result (λ refusal. refusal.1 ≡ faults.Memory
+            → Quiet (D.state disk) (D.state refusal.0)) }
+        // what was written of the manifest ends with zeros
+        ensures manifest { IfOk result (λ image. IsNewManifest sectors (seen D.Disk image)) }
+        // a manifest comes only when the files of the top are there
+        ensures last { MatchResult result
+            (λ image. IsMadeLast sectors (upper_uuid lowers) (D.state disk) (seen D.Disk image).state)
+            (λ refusal. IsMadeLast sectors (upper_uuid lowers) (D.state disk) (D.state refusal.0)) }
         // an image that is there stays as it was, whatever the answer
-        ensures kept { IsTrue D.tells → mark_of ((D.state disk).seen manifest_file) ≢ None → IfErr result (λ refusal. Quiet (D.state disk) (D.state refusal.0)) }
+        ensures kept { IsTrue D.tells → mark_of ((D.state disk).seen manifest_file) ≢ None
+            → IfErr result (λ refusal. Quiet (D.state disk) (D.state refusal.0)) }
     {
         let mut disk = disk;
         layers_law(lowers.as_slice());
@@ -98,22 +115,26 @@ impl<D: Disk> Image<D> {
         requires few { length lowers ≤ 255 }
         // only files without commits are opened, and none with a sequence over 2^61
         ensures stands { IfOk result (λ image. (files : List (List ℕ)) → AreLayersOf files lowers
-            → IsLoaded D.tells (D.state disk) (D.state image.disk) (D.faults image.disk) files image.parts) }
+            → IsLoaded (D.state disk) files (seen D.Disk image)) }
         // and so where no files are told
-        ensures starts { IfOk result (λ image. (told : Option (List (List ℕ))) → IfSome told (λ files. AreLayersOf files lowers)
-            → IsOpened D.tells (D.state disk) (D.state image.disk) (D.faults image.disk) told image.parts) }
-        ensures standing { IfOk result (λ image. IsStanding D.tells (D.state image.disk) (D.faults image.disk) image.parts) }
-        ensures frame { IfOk result (λ image. ((parts_view image.parts).lowers ≡ lowers) × ((parts_view image.parts).steps ≡ 0)) }
+        ensures starts { IfOk result (λ image. (told : Option (List (List ℕ)))
+            → IfSome told (λ files. AreLayersOf files lowers)
+            → IsOpened (D.state disk) told (seen D.Disk image)) }
+        ensures standing { IfOk result (λ image. IsImage (seen D.Disk image)) }
+        ensures frame { IfOk result (λ image. ((view image).lowers ≡ lowers) × ((view image).steps ≡ 0)) }
         // files that show an image without commits over these layers are opened as that image, or there is no
         // memory, or the disk fails
-        ensures complete { (base : bases.Base) (shows : Shows (D.state disk).seen base) → IsUnworn (D.state disk).seen base shows → base.done ≡ [] → base.frozen ≡ None
+        ensures complete { (base : bases.Base) (shows : Shows (D.state disk).seen base)
+            → IsUnworn (D.state disk).seen base shows → base.done ≡ [] → base.frozen ≡ None
             → AreLayersOf base.lowers lowers → IsTrue D.tells
-            → MatchResult result (λ image. ⟦<Image<D> as Stands>⟧.stands image (record base { faults = D.faults image.disk }) 0 [])
+            → MatchResult result (λ image.
+            StandsFor (seen D.Disk image) (record base { faults = faults_in D.Disk image }) [])
             (λ refusal. (refusal.1 ≡ why.Memory) ⊎ (refusal.1 ≡ why.Failed)) }
         ensures reason { IfErr result (λ refusal. IsTrue D.tells → IsLoadReason (D.state disk).seen lowers refusal.1) }
-        ensures quiet { MatchResult result (λ image. Quiet (D.state disk) (D.state image.disk)) (λ refusal. Quiet (D.state disk) (D.state refusal.0)) }
-        ensures failed { IfErr result (λ refusal. refusal.1 ≡ why.Failed → D.faults disk < D.faults refusal.0) }
-        ensures later { MatchResult result (λ image. D.faults disk ≤ D.faults image.disk) (λ refusal. D.faults disk ≤ D.faults refusal.0) }
+        ensures quiet { MatchResult result (λ image. Quiet (D.state disk) (seen D.Disk image).state)
+            (λ refusal. Quiet (D.state disk) (D.state refusal.0)) }
+        ensures cause { MatchResult result (λ image. faults_in D.Disk image ≡ D.faults disk)
+            (λ refusal. Charges D.faults disk refusal.0 (refusal.1 ≡ why.Failed)) }
     {
         let mut disk = disk;
         layers_law(lowers.as_slice());
@@ -127,48 +148,82 @@ impl<D: Disk> Image<D> {
     /// refusal as being full, or for want of memory, changes nothing of the image and nothing of the
     /// disk.
     pub fn write(&mut self, extent: Extent, bytes: &[u8]) -> Result<(), WriteFault>
-        requires standing { IsStanding D.tells (D.state self.old.disk) (D.faults self.old.disk) self.old.parts }
+        requires standing { IsImage (seen D.Disk self.old) }
         requires size { length bytes.now ≡ 512 * extent.count }
-        requires within { extent.at + extent.count ≤ (parts_view self.old.parts).sectors }
-        requires steps { (parts_view self.old.parts).steps < 2 ^ 62 }
-        ensures goes { Goes D.tells (D.state self.old.disk) (D.state self.new.disk) (D.faults self.old.disk) (D.faults self.new.disk) self.old.parts self.new.parts (noted_change (Write extent.at bytes.now) result) }
-        ensures full { IsOver ((parts_view self.old.parts).rows + rows_for extent.count) ((parts_view self.old.parts).filled + extent.count)
-            ↔ (result ≡ Err (Full (parts_view self.old.parts).rows (parts_view self.old.parts).filled)) }
-        ensures only { (rows sectors : ℕ) → result ≡ Err (Full rows sectors) → (rows ≡ (parts_view self.old.parts).rows) × (sectors ≡ (parts_view self.old.parts).filled) }
-        ensures same { OnErr result (¬ IsErrOf result Failed → parts_view self.new.parts ≡ parts_view self.old.parts) }
+        requires within { extent.at + extent.count ≤ (view self.old).sectors }
+        requires steps { (view self.old).steps < 2 ^ 62 }
+        ensures goes { Goes (seen D.Disk self.old) (seen D.Disk self.new)
+            (noted_change (Write extent.at bytes.now) result) }
+        ensures full { IsOver ((view self.old).rows + rows_for extent.count) ((view self.old).filled + extent.count)
+            ↔ (result ≡ Err (Full (view self.old).rows (view self.old).filled)) }
+        ensures only { (rows sectors : ℕ) → result ≡ Err (Full rows sectors)
+            → (rows ≡ (view self.old).rows) × (sectors ≡ (view self.old).filled) }
+        ensures same { OnErr result (¬ IsErrOf result Failed → view self.new ≡ view self.old) }
         // a refusal that is not the disk's comes before the disk is called
-        ensures spared { OnErr result (¬ IsErrOf result Failed → self.new.disk ≡ self.old.disk) }
-        ensures failed { IsErrOf result Failed → D.faults self.old.disk < D.faults self.new.disk }
-        ensures later { D.faults self.old.disk ≤ D.faults self.new.disk }
+        ensures spared { OnErr result (¬ IsErrOf result Failed → disk_of self.new ≡ disk_of self.old) }
+        ensures cause { Charges (faults_in D.Disk) self.old self.new (IsErrOf result Failed) }
     {
-        self.parts.write(&mut self.disk, extent, bytes)
+        match self.parts.top.write(&mut self.disk, extent, bytes) {
+            Ok(()) => {
+                self.parts.steps += 1;
+                Ok(())
+            }
+            Err(WriteFault::Failed) => {
+                self.parts.steps += 1;
+                Err(WriteFault::Failed)
+            }
+            Err(WriteFault::Memory) => Err(WriteFault::Memory),
+            Err(WriteFault::Full { rows, sectors }) => Err(WriteFault::Full { rows, sectors }),
+        }
     }
 
     /// Makes the sectors of an extent within the image zeros. It makes no call of the disk.
     pub fn zero(&mut self, extent: Extent) -> Result<(), WriteFault>
-        requires standing { IsStanding D.tells (D.state self.old.disk) (D.faults self.old.disk) self.old.parts }
-        requires within { extent.at + extent.count ≤ (parts_view self.old.parts).sectors }
-        requires steps { (parts_view self.old.parts).steps < 2 ^ 62 }
-        ensures disk { self.new.disk ≡ self.old.disk }
-        ensures goes { Goes D.tells (D.state self.old.disk) (D.state self.new.disk) (D.faults self.old.disk) (D.faults self.new.disk) self.old.parts self.new.parts (noted_change (Zero extent.at extent.count) result) }
-        ensures full { IsOver ((parts_view self.old.parts).rows + rows_for extent.count) (parts_view self.old.parts).filled
-            ↔ (result ≡ Err (Full (parts_view self.old.parts).rows (parts_view self.old.parts).filled)) }
-        ensures only { (rows sectors : ℕ) → result ≡ Err (Full rows sectors) → (rows ≡ (parts_view self.old.parts).rows) × (sectors ≡ (parts_view self.old.parts).filled) }
-        ensures same { OnErr result (parts_view self.new.parts ≡ parts_view self.old.parts) }
+        requires standing { IsImage (seen D.Disk self.old) }
+        requires within { extent.at + extent.count ≤ (view self.old).sectors }
+        requires steps { (view self.old).steps < 2 ^ 62 }
+        ensures disk { disk_of self.new ≡ disk_of self.old }
+        ensures goes { Goes (seen D.Disk self.old) (seen D.Disk self.new)
+            (noted_change (Zero extent.at extent.count) result) }
+        ensures full { IsOver ((view self.old).rows + rows_for extent.count) (view self.old).filled
+            ↔ (result ≡ Err (Full (view self.old).rows (view self.old).filled)) }
+        ensures only { (rows sectors : ℕ) → result ≡ Err (Full rows sectors)
+            → (rows ≡ (view self.old).rows) × (sectors ≡ (view self.old).filled) }
+        ensures same { OnErr result (view self.new ≡ view self.old) }
         ensures failed { IsErrOf result Failed → ⊥ }
     {
-        self.parts.zero(&self.disk, extent)
+        match self.parts.top.zero(extent) {
+            Ok(()) => {
+                self.parts.steps += 1;
+                Ok(())
+            }
+            Err(WriteFault::Failed) => {
+                self.parts.steps += 1;
+                Err(WriteFault::Failed)
+            }
+            Err(WriteFault::Memory) => Err(WriteFault::Memory),
+            Err(WriteFault::Full { rows, sectors }) => Err(WriteFault::Full { rows, sectors }),
+        }
     }
 
     /// Puts all that was written and zeroed onto the disk. After a failure the image goes on as it
     /// was, and a later flush keeps all of it.
     pub fn flush(&mut self) -> Result<(), DiskFailed>
-        requires standing { IsStanding D.tells (D.state self.old.disk) (D.faults self.old.disk) self.old.parts }
-        requires steps { (parts_view self.old.parts).steps < 2 ^ 62 }
-        ensures goes { Goes D.tells (D.state self.old.disk) (D.state self.new.disk) (D.faults self.old.disk) (D.faults self.new.disk) self.old.parts self.new.parts (noted_call Flush result) }
-        ensures cause { HasCause (D.faults self.old.disk) (D.faults self.new.disk) result }
+        requires standing { IsImage (seen D.Disk self.old) }
+        requires steps { (view self.old).steps < 2 ^ 62 }
+        ensures goes { Goes (seen D.Disk self.old) (seen D.Disk self.new) (noted_call Flush result) }
+        ensures cause { Charges (faults_in D.Disk) self.old self.new (IsErr result) }
     {
-        self.parts.flush(&mut self.disk)
+        match self.parts.top.flush(&mut self.disk) {
+            Ok(()) => {
+                self.parts.steps += 1;
+                Ok(())
+            }
+            Err(DiskFailed) => {
+                self.parts.steps += 1;
+                Err(DiskFailed)
+            }
+        }
     }
 
     /// The part of a read that the top has: its sectors in `out`, and the others as `gaps`, in order,
@@ -181,37 +236,57 @@ impl<D: Disk> Image<D> {
         out: &mut [u8],
         gaps: &mut GapList,
     ) -> Result<Arc<Snapshot>, ReadFault>
-        requires standing { IsStanding D.tells (D.state self.old.disk) (D.faults self.old.disk) self.old.parts }
+        requires standing { IsImage (seen D.Disk self.old) }
         requires size { length out.old ≡ 512 * extent.count }
-        requires within { extent.at + extent.count ≤ (parts_view self.old.parts).sectors }
-        requires steps { (parts_view self.old.parts).steps < 2 ^ 62 }
-        ensures goes { Goes D.tells (D.state self.old.disk) (D.state self.new.disk) (D.faults self.old.disk) (D.faults self.new.disk) self.old.parts self.new.parts (noted_read (Read extent.at extent.count) result) }
+        requires within { extent.at + extent.count ≤ (view self.old).sectors }
+        requires steps { (view self.old).steps < 2 ^ 62 }
+        ensures goes { Goes (seen D.Disk self.old) (seen D.Disk self.new)
+            (noted_read (Read extent.at extent.count) result) }
         ensures bytes { OnOk result (IsTrue D.tells → (base : bases.Base) (history : History)
-            → ⟦<Image<D> as Stands>⟧.stands self.old base 0 history → Paints (now base history).top extent.at extent.count out.old out.new) }
-        ensures gaps { OnOk result ((base : bases.Base) (history : History) → ⟦<Image<D> as Stands>⟧.stands self.old base 0 history
-            → AreGaps (IsHole (now base history).top) extent.at (extent.at + extent.count) gaps.new) }
+            → StandsFor (seen D.Disk self.old) base history
+            → Paints (upper (now base history)) extent.at extent.count out.old out.new) }
+        ensures gaps { OnOk result ((base : bases.Base) (history : History)
+            → StandsFor (seen D.Disk self.old) base history
+            → AreGaps (IsGap (now base history)) extent.at (extent.at + extent.count) gaps.new) }
         // the image after the history stands in `out`, but for the gaps, and there it is that of the layers alone
         ensures image { OnOk result (IsTrue D.tells → (base : bases.Base) (history : History)
-            → ⟦<Image<D> as Stands>⟧.stands self.old base 0 history → IsPlanOf (parts_view self.old.parts).sectors base history extent.at extent.count out.old out.new) }
-        ensures snapshot { IfOk result (λ snapshot. IsSnapshotOf (arc_value snapshot) (parts_view self.old.parts).lowers (parts_view self.old.parts).committed) }
-        ensures quiet { Quiet (D.state self.old.disk) (D.state self.new.disk) }
-        ensures failed { IsErrOf result reads.Failed → D.faults self.old.disk < D.faults self.new.disk }
-        ensures later { D.faults self.old.disk ≤ D.faults self.new.disk }
+            → StandsFor (seen D.Disk self.old) base history
+            → IsPlanOf (view self.old).sectors base history extent.at extent.count out.old out.new) }
+        ensures snapshot { IfOk result (λ snapshot.
+            IsSnapshotOf (arc_value snapshot) (view self.old).lowers (view self.old).committed) }
+        ensures quiet { Rests (seen D.Disk self.old) (seen D.Disk self.new) }
+        ensures cause { Charges (faults_in D.Disk) self.old self.new (IsErrOf result reads.Failed) }
     {
-        self.parts.plan(alloc, &mut self.disk, extent, out, gaps)
+        let Ok(snapshot) = Arc::try_clone(&self.parts.snapshot) else {
+            return Err(ReadFault::Memory);
+        };
+        *gaps = GapList::from_vec(Vec::new(alloc));
+        match self.parts.top.read_part(&mut self.disk, extent, out, gaps) {
+            Ok(()) => {
+                self.parts.steps += 1;
+                Ok(snapshot)
+            }
+            Err(ReadFault::Failed) => {
+                self.parts.steps += 1;
+                Err(ReadFault::Failed)
+            }
+            Err(ReadFault::Memory) => Err(ReadFault::Memory),
+        }
     }
 
     /// Its sectors.
     pub fn sectors(&self) -> u64
-        ensures { result ≡ (parts_view self.now.parts).sectors }
+        ensures { result ≡ (view self.now).sectors }
     {
         self.parts.top.sectors()
     }
 
     /// What it says of itself.
     pub fn status(&self) -> Status
-        requires standing { IsStanding D.tells (D.state self.now.disk) (D.faults self.now.disk) self.now.parts }
-        ensures { IsStatusOf (parts_view self.now.parts) result }
+        requires standing { IsImage (seen D.Disk self.now) }
+        ensures view { IsStatusOf (view self.now) result }
+        ensures told { (base : bases.Base) (history : History) → StandsFor (seen D.Disk self.now) base history
+            → IsTold (now base history) result }
     {
         Status {
             sectors: self.sectors(),
@@ -222,14 +297,14 @@ impl<D: Disk> Image<D> {
 
     /// The entries of its history.
     pub fn steps(&self) -> u64
-        ensures { result ≡ (parts_view self.now.parts).steps }
+        ensures { result ≡ (view self.now).steps }
     {
         self.parts.steps
     }
 
     /// Its disk.
     pub fn into_disk(self) -> D
-        ensures { result ≡ self.disk }
+        ensures { result ≡ disk_of self }
     {
         let Image { disk, parts: _ } = self;
         disk
@@ -238,7 +313,15 @@ impl<D: Disk> Image<D> {
     /// That an image stands for a history says what its files and its tables are, and what a crash
     /// leaves.
     pub fn standing_law(&self)
-        ensures { (base : bases.Base) (history : History) → ⟦<Image<D> as Stands>⟧.stands self.now base 0 history
-            → StandsFor D.tells (D.state self.now.disk) (D.faults self.now.disk) (parts_view self.now.parts) base history }
+        ensures { (base : bases.Base) (history : History) → StandsFor (seen D.Disk self.now) base history
+            → ViewStands D.tells (seen D.Disk self.now).state (faults_in D.Disk self.now) (view self.now)
+            base history }
+    {}
+
+    /// What the snapshots that it gives say of the image in its gaps.
+    pub fn below_law(&self)
+        ensures { (base : bases.Base) (history : History) (s : SnapshotView)
+            → StandsFor (seen D.Disk self.now) base history
+            → IsSnapshotOf s (view self.now).lowers (view self.now).committed → ReadsBelow base history s }
     {}
 }

@@ -9,6 +9,7 @@ mod loading;
 mod manifest;
 mod parts;
 mod snapshot;
+mod sources;
 mod status;
 mod steps;
 mod whole;
@@ -19,6 +20,7 @@ pub use laws::{left_laws, loading_laws, planning_law, reading_laws, showing_laws
 pub use loading::LoadFault;
 pub use parts::LayerList;
 pub use snapshot::Snapshot;
+pub use sources::LayerSource;
 pub use status::Status;
 pub use steps::{Numbered, Reply, ReplyList, Step, StepList, run_steps};
 pub use whole::WholeFault;

@@ -1,14 +1,16 @@
 //! Loading an image without commits.
 ghost use Rattle.std.specs.Prelude.{◌≡◌, ℕ, ◌^◌, ◌<◌, ◌≤◌, ◌↔◌, List, [], length, map, IsTrue, IfOk, IfErr, OnOk, IfSome, IfNone, IsErrOf};
+ghost use Rattle.sector_extent.specs.Causes.{Charges};
 ghost use Rattle.block_disk.specs.Claims.{Quiet};
 ghost use Rattle.gate_mark.specs.Mark.{file_of, sequence_in, body_in, IsKept, MayHold};
+ghost use Rattle.flat_image.specs.Stacks.{HaveSize};
 ghost use Rattle.sealed_layer.specs.Layers.{LayerIndex};
 ghost use Rattle.image_core.specs.declared.loading.LoadFault.TheVariants as why;
 ghost use Rattle.image_core.specs.Numbers.{manifest_file};
 ghost use Rattle.image_core.specs.Manifest.{size_said, count_said, epoch_said, uuid_said};
 ghost use Rattle.image_core.specs.View.{AreLayersOf};
-ghost use Rattle.image_core.specs.Parts.{IsLoaded};
-ghost use Rattle.image_core.specs.Loading.{heads_in, IsBareBody, HasManifest, HaveSize, AreStackOrNone, IsLowersReason, IsLoadReason};
+ghost use Rattle.image_core.specs.Seen.{with_disk, IsLoaded};
+ghost use Rattle.image_core.specs.Loading.{heads_in, IsBareBody, HasManifest, AreStackOrNone, IsLowersReason, IsLoadReason};
 
 use crate::creating::{parent_of, snapshot_of};
 use crate::parts::{LayerList, Parts};
@@ -56,10 +58,10 @@ fn load_manifest<D: Disk>(disk: &mut D) -> Result<Mark, LoadFault>
     ensures bodies { IfOk result (λ m. (b : List ℕ) → MayHold m b → b ≡ body_in m) }
     ensures kept { IfOk result (IsKept (D.state disk.new)) }
     ensures shows { IfOk result (λ m. IsTrue D.tells → HasManifest (D.state disk.old).seen (body_in m)) }
-    ensures reason { IfErr result (λ fault. IsTrue D.tells → (layers : List LayerIndex) → IsLoadReason (D.state disk.old).seen layers fault) }
+    ensures reason { IfErr result (λ fault. IsTrue D.tells → (layers : List LayerIndex)
+        → IsLoadReason (D.state disk.old).seen layers fault) }
     ensures quiet { Quiet (D.state disk.old) (D.state disk.new) }
-    ensures failed { IsErrOf result why.Failed → D.faults disk.old < D.faults disk.new }
-    ensures later { D.faults disk.old ≤ D.faults disk.new }
+    ensures cause { Charges D.faults disk.old disk.new (IsErrOf result why.Failed) }
 {
     match Mark::load(disk, MANIFEST) {
         Ok(mark) => Ok(mark),
@@ -115,12 +117,12 @@ fn bare_size(body: &[u8; 48]) -> Option<u64>
     Some(said.sectors)
 }
 
-// All layers have so many sectors.
-fn have_size(layers: &[Layer], sectors: u64) -> bool
-    ensures { IsTrue result ↔ HaveSize sectors layers.now }
+// All layers with these heads have so many sectors.
+fn have_size(heads: &[Head], sectors: u64) -> bool
+    ensures { IsTrue result ↔ HaveSize sectors heads.now }
 {
-    for layer in layers {
-        if layer.head().sectors != sectors {
+    for head in heads {
+        if head.sectors != sectors {
             return false;
         }
     }
@@ -141,18 +143,18 @@ fn heads_of(alloc: Global, layers: &[Layer]) -> Result<Vec<Head>, Memory>
 // Refuses lower layers that are no stack of so many sectors.
 fn check_lowers(alloc: Global, layers: &[Layer], sectors: u64) -> Result<(), LoadFault>
     requires few { length layers.now ≤ 255 }
-    ensures ok { OnOk result (HaveSize sectors layers.now × AreStackOrNone layers.now) }
+    ensures ok { OnOk result (HaveSize sectors (heads_in layers.now) × AreStackOrNone layers.now) }
     ensures reason { IfErr result (IsLowersReason sectors layers.now) }
 {
-    if !have_size(layers, sectors) {
+    let Ok(heads) = heads_of(alloc, layers) else {
+        return Err(LoadFault::Memory);
+    };
+    if !have_size(heads.as_slice(), sectors) {
         return Err(LoadFault::SizeDiffers);
     }
     if layers.is_empty() {
         return Ok(());
     }
-    let Ok(heads) = heads_of(alloc, layers) else {
-        return Err(LoadFault::Memory);
-    };
     match check(heads.as_slice()) {
         Ok(()) => Ok(()),
         Err(fault) => Err(LoadFault::Stack(fault)),
@@ -168,12 +170,11 @@ impl Parts {
     ) -> Result<Parts, LoadFault>
         requires few { length lowers ≤ 255 }
         ensures stands { IfOk result (λ parts. (files : List (List ℕ)) → AreLayersOf files lowers
-            → IsLoaded D.tells (D.state disk.old) (D.state disk.new) (D.faults disk.new) files parts) }
+            → IsLoaded (D.state disk.old) files (with_disk D.Disk disk.new parts)) }
         ensures frame { IfOk result (λ parts. (parts.lowers ≡ lowers) × (parts.steps ≡ 0)) }
         ensures reason { IfErr result (λ fault. IsTrue D.tells → IsLoadReason (D.state disk.old).seen lowers fault) }
         ensures quiet { Quiet (D.state disk.old) (D.state disk.new) }
-        ensures failed { IsErrOf result why.Failed → D.faults disk.old < D.faults disk.new }
-        ensures later { D.faults disk.old ≤ D.faults disk.new }
+        ensures cause { Charges D.faults disk.old disk.new (IsErrOf result why.Failed) }
     {
         let manifest = load_manifest(disk)?;
         let Some(sectors) = bare_size(&manifest.get()) else {

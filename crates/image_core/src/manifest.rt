@@ -1,16 +1,17 @@
 //! The body of the manifest.
-ghost use Rattle.std.specs.Prelude.{◌≡◌, None};
-ghost use Rattle.image_core.specs.Manifest.{count_said, epoch_said, uuid_said, size_said, Names};
+ghost use Rattle.std.specs.Prelude.{◌≡◌, ℕ, None, replicate};
+ghost use Rattle.image_core.specs.Manifest.{count_said, epoch_said, uuid_said, size_said, spare_in, IsWritten};
 
 use byte_fields::FieldWriter;
 
 // The body that says so many committed layers, the epoch of the top, the uuid of the commit in
-// progress, and the sectors of the image.
+// progress, and the sectors of the image. It ends with zeros.
 fn body_of(committed: u64, epoch: u64, uuid: &[u8; 16], sectors: u64) -> [u8; 48]
     ensures count { count_said result ≡ committed }
     ensures epoch { epoch_said result ≡ epoch }
     ensures uuid { uuid_said result ≡ uuid.now }
     ensures size { size_said result ≡ sectors }
+    ensures spare { spare_in result ≡ replicate {A = ℕ} 8 0 }
 {
     let mut body = FieldWriter::new();
     body.put_u64_le(committed);
@@ -22,7 +23,7 @@ fn body_of(committed: u64, epoch: u64, uuid: &[u8; 16], sectors: u64) -> [u8; 48
 
 // The body of a new image.
 pub(crate) fn new_body(sectors: u64) -> [u8; 48]
-    ensures { Names result 0 None sectors }
+    ensures { IsWritten result 0 None sectors }
 {
     body_of(0, 0, &[0; 16], sectors)
 }

@@ -1,9 +1,10 @@
 //! Lists of steps of an image, made one after another.
 ghost use Rattle.std.specs.Prelude.{◌≡◌, ℕ, ◌+◌, ◌^◌, ◌<◌, ◌≤◌, ◌++◌, length, IfOk, OnOk, OnErr};
 ghost use Rattle.flat_image.specs.declared.base.Base as bases;
-ghost use Rattle.flat_image.specs.History.{History, now, fault_count};
-ghost use Rattle.image_core.specs.Parts.{parts_view, ImageStands, IsStanding, Goes};
-ghost use Rattle.image_core.specs.Steps.{MayStep, MayRun, noted_with, noted_as, noted_by, IsReply, AreReplies, GoesBy, added, Makes};
+ghost use Rattle.sector_extent.specs.Causes.{Charges};
+ghost use Rattle.flat_image.specs.History.{History, now};
+ghost use Rattle.image_core.specs.Seen.{seen, view, faults_in, IsImage, StandsFor, Goes};
+ghost use Rattle.image_core.specs.Steps.{MayStep, MayRun, noted_with, noted_by, NotesFault, IsReply, AreReplies, added, MakesNext, GoesBy};
 
 use crate::image::Image;
 use crate::status::Status;
@@ -70,13 +71,16 @@ fn planned(outcome: Result<(), ReadFault>, bytes: Vec<u8>, gaps: GapList) -> Rep
 
 // The plan of an extent into bytes that are made for it.
 fn plan_step<D: Disk>(alloc: Global, image: &mut Image<D>, extent: Extent) -> Result<Reply, Memory>
-    requires standing { IsStanding D.tells (D.state image.old.disk) (D.faults image.old.disk) image.old.parts }
-    requires within { extent.at + extent.count ≤ (parts_view image.old.parts).sectors }
-    requires steps { (parts_view image.old.parts).steps < 2 ^ 62 }
-    ensures goes { IfOk result (λ reply. Goes D.tells (D.state image.old.disk) (D.state image.new.disk) (D.faults image.old.disk) (D.faults image.new.disk) image.old.parts image.new.parts (noted_with (Step.Plan extent) reply)) }
+    requires standing { IsImage (seen D.Disk image.old) }
+    requires within { extent.at + extent.count ≤ (view image.old).sectors }
+    requires steps { (view image.old).steps < 2 ^ 62 }
+    ensures goes { IfOk result (λ reply. Goes (seen D.Disk image.old) (seen D.Disk image.new)
+        (noted_with (Step.Plan extent) reply)) }
     ensures reply { IfOk result (λ reply. (base : bases.Base) (history : History)
-        → ImageStands D.tells (D.state image.old.disk) (D.faults image.old.disk) image.old.parts base history → IsReply D.tells (now base history) (Step.Plan extent) reply) }
-    ensures failed { IfOk result (λ reply. (number : ℕ) → D.faults image.old.disk + fault_count (noted_as number (noted_with (Step.Plan extent) reply)) ≤ D.faults image.new.disk) }
+        → StandsFor (seen D.Disk image.old) base history
+        → IsReply D.tells (now base history) (Step.Plan extent) reply) }
+    ensures cause { IfOk result (λ reply. Charges (faults_in D.Disk) image.old image.new
+        (NotesFault (noted_with (Step.Plan extent) reply))) }
     ensures err { OnErr result (image.new ≡ image.old) }
 {
     let mut bytes = vec![in alloc; 0; 512 * extent.count as usize]?;
@@ -89,13 +93,15 @@ fn plan_step<D: Disk>(alloc: Global, image: &mut Image<D>, extent: Extent) -> Re
 
 // Makes a step. Without memory for its reply it is not made.
 fn make_step<D: Disk>(alloc: Global, image: &mut Image<D>, step: &Step) -> Result<Reply, Memory>
-    requires standing { IsStanding D.tells (D.state image.old.disk) (D.faults image.old.disk) image.old.parts }
-    requires may { MayStep (parts_view image.old.parts).sectors step.now }
-    requires steps { (parts_view image.old.parts).steps < 2 ^ 62 }
-    ensures goes { IfOk result (λ reply. Goes D.tells (D.state image.old.disk) (D.state image.new.disk) (D.faults image.old.disk) (D.faults image.new.disk) image.old.parts image.new.parts (noted_with step.now reply)) }
+    requires standing { IsImage (seen D.Disk image.old) }
+    requires may { MayStep (view image.old).sectors step.now }
+    requires steps { (view image.old).steps < 2 ^ 62 }
+    ensures goes { IfOk result (λ reply. Goes (seen D.Disk image.old) (seen D.Disk image.new)
+        (noted_with step.now reply)) }
     ensures reply { IfOk result (λ reply. (base : bases.Base) (history : History)
-        → ImageStands D.tells (D.state image.old.disk) (D.faults image.old.disk) image.old.parts base history → IsReply D.tells (now base history) step.now reply) }
-    ensures failed { IfOk result (λ reply. (number : ℕ) → D.faults image.old.disk + fault_count (noted_as number (noted_with step.now reply)) ≤ D.faults image.new.disk) }
+        → StandsFor (seen D.Disk image.old) base history → IsReply D.tells (now base history) step.now reply) }
+    ensures cause { IfOk result (λ reply. Charges (faults_in D.Disk) image.old image.new
+        (NotesFault (noted_with step.now reply))) }
     ensures err { OnErr result (image.new ≡ image.old) }
 {
     match step {
@@ -114,10 +120,11 @@ fn make_next<D: Disk>(
     numbered: &Numbered,
     replies: &mut Vec<Reply>,
 ) -> Result<(), Memory>
-    requires standing { IsStanding D.tells (D.state image.old.disk) (D.faults image.old.disk) image.old.parts }
-    requires may { MayStep (parts_view image.old.parts).sectors numbered.now.step }
-    requires steps { (parts_view image.old.parts).steps < 2 ^ 62 }
-    ensures ok { OnOk result (Makes D.tells (D.state image.old.disk) (D.state image.new.disk) (D.faults image.old.disk) (D.faults image.new.disk) image.old.parts image.new.parts numbered.now replies.old.items replies.new.items) }
+    requires standing { IsImage (seen D.Disk image.old) }
+    requires may { MayStep (view image.old).sectors numbered.now.step }
+    requires steps { (view image.old).steps < 2 ^ 62 }
+    ensures ok { OnOk result (MakesNext (seen D.Disk image.old) (seen D.Disk image.new)
+        numbered.now replies.old.items replies.new.items) }
     ensures image { OnErr result (image.new ≡ image.old) }
     ensures replies { OnErr result (replies.new.items ≡ replies.old.items) }
 {
@@ -134,14 +141,17 @@ fn make_all<D: Disk>(
     list: &[Numbered],
     replies: &mut Vec<Reply>,
 ) -> Result<(), Memory>
-    requires standing { IsStanding D.tells (D.state image.old.disk) (D.faults image.old.disk) image.old.parts }
-    requires may { MayRun (parts_view image.old.parts).sectors list.now }
-    requires steps { (parts_view image.old.parts).steps + length list.now ≤ 2 ^ 62 }
+    requires standing { IsImage (seen D.Disk image.old) }
+    requires may { MayRun (view image.old).sectors list.now }
+    requires steps { (view image.old).steps + length list.now ≤ 2 ^ 62 }
     ensures replies { replies.new.items ≡ replies.old.items ++ added replies.old.items replies.new.items }
     ensures all { OnOk result (length (added replies.old.items replies.new.items) ≡ length list.now) }
     ensures some { OnErr result (length (added replies.old.items replies.new.items) < length list.now) }
-    ensures goes { GoesBy D.tells (D.state image.old.disk) (D.state image.new.disk) (D.faults image.old.disk) (D.faults image.new.disk) image.old.parts image.new.parts (noted_by list.now (added replies.old.items replies.new.items)) }
-    ensures right { (base : bases.Base) (history : History) → ImageStands D.tells (D.state image.old.disk) (D.faults image.old.disk) image.old.parts base history
+    ensures goes { GoesBy D.Disk image.old image.new list.now (added replies.old.items replies.new.items) }
+    ensures stands { (base : bases.Base) (history : History) → StandsFor (seen D.Disk image.old) base history
+        → StandsFor (seen D.Disk image.new) base
+        (history ++ noted_by list.now (added replies.old.items replies.new.items)) }
+    ensures right { (base : bases.Base) (history : History) → StandsFor (seen D.Disk image.old) base history
         → AreReplies D.tells base history list.now (added replies.old.items replies.new.items) }
 {
     for numbered in list {
@@ -159,14 +169,17 @@ pub fn run_steps<D: Disk>(
     list: &StepList,
     replies: &mut ReplyList,
 ) -> Result<(), Memory>
-    requires standing { IsStanding D.tells (D.state image.old.disk) (D.faults image.old.disk) image.old.parts }
-    requires may { MayRun (parts_view image.old.parts).sectors list.now }
-    requires steps { (parts_view image.old.parts).steps + length list.now ≤ 2 ^ 62 }
+    requires standing { IsImage (seen D.Disk image.old) }
+    requires may { MayRun (view image.old).sectors list.now }
+    requires steps { (view image.old).steps + length list.now ≤ 2 ^ 62 }
     ensures replies { replies.new ≡ replies.old ++ added replies.old replies.new }
     ensures all { OnOk result (length (added replies.old replies.new) ≡ length list.now) }
     ensures some { OnErr result (length (added replies.old replies.new) < length list.now) }
-    ensures goes { GoesBy D.tells (D.state image.old.disk) (D.state image.new.disk) (D.faults image.old.disk) (D.faults image.new.disk) image.old.parts image.new.parts (noted_by list.now (added replies.old replies.new)) }
-    ensures right { (base : bases.Base) (history : History) → ⟦<Image<D> as Stands>⟧.stands image.old base 0 history
+    // each step from the image that the one before it left, with its own reply, fault and moments
+    ensures goes { GoesBy D.Disk image.old image.new list.now (added replies.old replies.new) }
+    ensures stands { (base : bases.Base) (history : History) → StandsFor (seen D.Disk image.old) base history
+        → StandsFor (seen D.Disk image.new) base (history ++ noted_by list.now (added replies.old replies.new)) }
+    ensures right { (base : bases.Base) (history : History) → StandsFor (seen D.Disk image.old) base history
         → AreReplies D.tells base history list.now (added replies.old replies.new) }
 {
     let mut taken = replace(replies, ReplyList::from_vec(Vec::new(alloc))).into_vec();

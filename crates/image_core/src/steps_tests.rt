@@ -1,5 +1,5 @@
 ghost use Rattle.std.specs.Prelude.{◌≡◌, ◌+◌, ◌<◌, ◌≤◌, IfOk, [], length};
-ghost use Rattle.image_core.specs.Parts.{parts_view, IsStanding};
+ghost use Rattle.image_core.specs.Seen.{seen, view, IsImage};
 ghost use Rattle.image_core.specs.Steps.{MayStep, MayRun};
 
 use crate::{Image, LayerList, Numbered, Reply, ReplyList, Step, StepList, run_steps};
@@ -27,9 +27,9 @@ fn none(alloc: Global) -> LayerList
 
 // An image of eight sectors in which nothing was written.
 fn new_image<D: Disk + Drop>(alloc: Global, disk: D) -> Result<Image<D>, Fail>
-    ensures standing { IfOk result (λ image. IsStanding D.tells (D.state image.disk) (D.faults image.disk) image.parts) }
-    ensures sectors { IfOk result (λ image. (parts_view image.parts).sectors ≡ 8) }
-    ensures steps { IfOk result (λ image. (parts_view image.parts).steps ≡ 0) }
+    ensures standing { IfOk result (λ image. IsImage (seen D.Disk image)) }
+    ensures sectors { IfOk result (λ image. (view image).sectors ≡ 8) }
+    ensures steps { IfOk result (λ image. (view image).steps ≡ 0) }
 {
     match Image::create(alloc, disk, none(alloc), 8) {
         Ok(image) => Ok(image),
@@ -42,9 +42,9 @@ fn new_image<D: Disk + Drop>(alloc: Global, disk: D) -> Result<Image<D>, Fail>
 
 // The image on a disk, which has eight sectors.
 fn load_image<D: Disk + Drop>(alloc: Global, disk: D) -> Result<Image<D>, Fail>
-    ensures standing { IfOk result (λ image. IsStanding D.tells (D.state image.disk) (D.faults image.disk) image.parts) }
-    ensures sectors { IfOk result (λ image. (parts_view image.parts).sectors ≡ 8) }
-    ensures steps { IfOk result (λ image. (parts_view image.parts).steps ≡ 0) }
+    ensures standing { IfOk result (λ image. IsImage (seen D.Disk image)) }
+    ensures sectors { IfOk result (λ image. (view image).sectors ≡ 8) }
+    ensures steps { IfOk result (λ image. (view image).steps ≡ 0) }
 {
     match Image::load(alloc, disk, none(alloc)) {
         Ok(image) => {
@@ -105,9 +105,9 @@ fn two_flushes(alloc: Global) -> Result<StepList, Memory>
 
 // Makes the steps of a list on an image of eight sectors.
 fn run<D: Disk>(alloc: Global, image: &mut Image<D>, list: &StepList) -> Result<ReplyList, Memory>
-    requires standing { IsStanding D.tells (D.state image.old.disk) (D.faults image.old.disk) image.old.parts }
-    requires sectors { (parts_view image.old.parts).sectors ≡ 8 }
-    requires steps { (parts_view image.old.parts).steps ≡ 0 }
+    requires standing { IsImage (seen D.Disk image.old) }
+    requires sectors { (view image.old).sectors ≡ 8 }
+    requires steps { (view image.old).steps ≡ 0 }
     requires may { MayRun 8 list.now }
     requires length { length list.now ≤ 8 }
 {
@@ -135,9 +135,9 @@ fn two_bytes(bytes: &[u8]) -> Result<(u8, u8), Fail> {
 
 // The bytes of the first two sectors.
 fn first_two<D: Disk>(alloc: Global, image: &mut Image<D>) -> Result<(u8, u8), Fail>
-    requires standing { IsStanding D.tells (D.state image.old.disk) (D.faults image.old.disk) image.old.parts }
-    requires sectors { (parts_view image.old.parts).sectors ≡ 8 }
-    requires steps { (parts_view image.old.parts).steps ≡ 0 }
+    requires standing { IsImage (seen D.Disk image.old) }
+    requires sectors { (view image.old).sectors ≡ 8 }
+    requires steps { (view image.old).steps ≡ 0 }
 {
     let mut list = StepList::from_vec(Vec::new(alloc));
     push_step(&mut list, Step::Plan(Extent { at: 0, count: 2 }))?;

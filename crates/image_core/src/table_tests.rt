@@ -1,6 +1,6 @@
 //! Each call of the disk that makes an image, changes it or opens it fails once, and is the last one once.
 ghost use Rattle.std.specs.Prelude.{◌≡◌, ◌+◌, ◌≤◌, [], length, IfOk};
-ghost use Rattle.image_core.specs.Parts.{parts_view, IsStanding};
+ghost use Rattle.image_core.specs.Seen.{seen, view, IsImage};
 ghost use Rattle.image_core.specs.Steps.{MayStep, MayRun};
 
 use crate::{Image, LayerList, LoadFault, Numbered, Reply, ReplyList, Step, StepList, run_steps};
@@ -107,8 +107,8 @@ fn held_in(bytes: &[u8]) -> Held {
 
 // The sectors that an image has.
 fn read_held<D: Disk + Drop>(alloc: Global, image: Image<D>) -> Result<Held, Fail>
-    requires standing { IsStanding D.tells (D.state image.disk) (D.faults image.disk) image.parts }
-    requires steps { (parts_view image.parts).steps ≡ 0 }
+    requires standing { IsImage (seen D.Disk image) }
+    requires steps { (view image).steps ≡ 0 }
 {
     let mut image = image;
     if image.sectors() != 8 {

@@ -1,4 +1,6 @@
-ghost use Rattle.std.specs.Prelude.{◌≡◌, length, IfOk};
+ghost use Rattle.std.specs.Prelude.{◌≡◌, ◌<◌, length, IfOk};
+ghost use Rattle.layer_shelf.specs.Shelves.{file_at};
+ghost use Rattle.flat_image.specs.LayerFiles.{LayerOf};
 ghost use Rattle.image_core.specs.View.{AreLayersOf};
 ghost use Rattle.image_core.specs.Creating.{AreLegal};
 
@@ -7,7 +9,7 @@ use block_disk::MemDisk;
 use layer_shelf::{MemShelf, Shelf};
 use layer_stack::check;
 use lsmt_header::{Head, Kind, Tag, encode_block};
-use sealed_layer::read_layer;
+use sealed_layer::{Layer, LayerFault, read_layer};
 use sector_extent::{Bytes, CallList, Extent, FileTexts};
 use seg_mapping::{Row, encode};
 use std::alloc::{AllocError, Global};
@@ -100,6 +102,15 @@ fn shelf_of(rt: &impl Abort, alloc: Global) -> Result<MemShelf, Fail> {
     ))
 }
 
+// The layer of a file.
+fn layer_at(alloc: Global, shelf: &mut MemShelf, k: u32) -> Result<Layer, LayerFault>
+    requires { k < length shelf.old.files }
+    ensures found { IfOk result (λ layer. LayerOf (file_at shelf.old.files k) layer.head layer.rows) }
+    ensures files { shelf.new.files ≡ shelf.old.files }
+{
+    read_layer(alloc, shelf, k)
+}
+
 // The layers of both files.
 fn layers_of(rt: &impl Abort, alloc: Global, shelf: &mut MemShelf) -> Result<LayerList, Fail>
     ensures two { IfOk result (λ layers. length shelf.old.files ≡ 2) }
@@ -108,8 +119,8 @@ fn layers_of(rt: &impl Abort, alloc: Global, shelf: &mut MemShelf) -> Result<Lay
     ensures files { shelf.new.files ≡ shelf.old.files }
 {
     assert_eq!(rt; shelf.count(), 2);
-    let first = read_layer(alloc, shelf, 0)?;
-    let second = read_layer(alloc, shelf, 1)?;
+    let first = layer_at(alloc, shelf, 0)?;
+    let second = layer_at(alloc, shelf, 1)?;
     assert_eq!(rt; first.head().sectors, 8);
     assert_eq!(rt; second.head().sectors, 8);
     check(&[*first.head(), *second.head()])?;

@@ -1,6 +1,6 @@
+use Rattle.image_core.specs.Seen.{seen}
 use Rattle.image_core.proofs.Planned.{plan-reads}
 use Rattle.image_core.proofs.laws.planning_law.Goals as goal
 
 pub returns : goal.returns
-returns g c parts base history at count old new =
-    plan-reads g.D.Disk.tells (g.D.Disk.state c.args.disk.now) (g.D.Disk.faults c.args.disk.now) parts base history at count old new
+returns g c base history at count old new stands = plan-reads (seen g.D.Disk c.args.image.now) base history stands at count old new stands

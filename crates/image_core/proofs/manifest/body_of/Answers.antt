@@ -1,5 +1,6 @@
+use Rattle.std.proofs.Common.{refl}
 use Rattle.std.specs.Prelude.{◌-◌, length, replicate}
-use Rattle.image_core.proofs.ManifestBodies.{was-put, count-put, epoch-put, uuid-put, size-put}
+use Rattle.image_core.proofs.ManifestBodies.{was-put, count-put, epoch-put, uuid-put, size-put, spare-put}
 use Rattle.image_core.proofs.manifest.body_of.Goals as goal
 
 pub returns-clause-count : goal.returns-clause-count
@@ -29,3 +30,11 @@ returns-clause-size c =
     (was-put c.args.committed c.args.epoch c.args.sectors c.args.uuid.now c.finish.result c.new-body.result c.put_u64_le.new.self c.put_u64_le-2.new.self
     c.put_bytes.new.self c.put_u64_le-3.new.self (replicate (48 - length c.put_u64_le-3.new.self) 0)
     c.new-body.ensures c.put_u64_le.ensures c.put_u64_le-2.ensures c.put_bytes.ensures c.put_u64_le-3.ensures c.finish.ensures) c.told-uuid c.ranges.sectors.fits
+
+pub returns-clause-spare : goal.returns-clause-spare
+returns-clause-spare c =
+    spare-put c.args.committed c.args.epoch c.args.sectors c.args.uuid.now c.finish.result
+    (was-put c.args.committed c.args.epoch c.args.sectors c.args.uuid.now c.finish.result c.new-body.result c.put_u64_le.new.self c.put_u64_le-2.new.self
+    c.put_bytes.new.self c.put_u64_le-3.new.self (replicate (48 - length c.put_u64_le-3.new.self) 0)
+    c.new-body.ensures c.put_u64_le.ensures c.put_u64_le-2.ensures c.put_bytes.ensures c.put_u64_le-3.ensures c.finish.ensures) c.told-uuid
+    c.put_u64_le-3.new.self c.finish.ensures refl

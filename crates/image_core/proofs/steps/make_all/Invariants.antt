@@ -3,6 +3,4 @@ use Rattle.image_core.proofs.StepLists.{Went}
 use Rattle.image_core.proofs.steps.make_all.Given as goal
 
 abbrev pub invariant-loop-numbered : goal.invariant-loop-numbered
-invariant-loop-numbered g l =
-    Went g.D.Disk.tells (g.D.Disk.state l.initial.image.disk) (g.D.Disk.state l.image.disk) (g.D.Disk.faults l.initial.image.disk) (g.D.Disk.faults l.image.disk) l.initial.image.parts l.image.parts
-    (take l.numbered-index l.list) l.initial.replies.items l.replies.items
+invariant-loop-numbered g l = Went g.D.Disk l.initial.image l.image (take l.numbered-index l.list) l.initial.replies.items l.replies.items

@@ -9,10 +9,10 @@ use Rattle.image_core.proofs.snapshot.Snapshot.read_gaps.Goals as goal
 
 pub loop-gap-init : goal.loop-gap-init
 loop-gap-init g c = record {
-  filled = IfSome-each (g.S.Shelf.files c.args.shelf.now) (λ files told. refl);
+  filled = IfSome-each (g.F.LayerSource.files c.args.source.now) (λ files told. refl);
   files = refl;
   count = refl;
-  faults = omega arith;
+  reads = g.met.F.LayerSource.none c.args.source.now;
 }
 
 pub read_gap-requires-clause-named : goal.read_gap-requires-clause-named
@@ -31,17 +31,17 @@ loop-gap-preserved g c =
     let more : take (c.loop-gap.gap-index + 1) c.args.gaps.now ≡ take c.loop-gap.gap-index c.args.gaps.now ++ gap ∷ [] =
     take_more c.args.gaps.now c.loop-gap.gap-index gap c.loop-gap-test.true ∙ ap (λ (e : Extent). take c.loop-gap.gap-index c.args.gaps.now ++ e ∷ []) (sym c.gap-item.is) in
     record {
-      filled = subst (λ (gaps : List Extent). IfSome (g.S.Shelf.files c.args.shelf.now) (λ files. AreFilled (sectors_by files cells) c.args.at gaps c.args.out.now c.read_gap.new.out)) (sym more)
-          (filled-on (g.S.Shelf.files c.args.shelf.now) (g.S.Shelf.files c.loop-gap.shelf) cells c.args.at (take c.loop-gap.gap-index c.args.gaps.now) gap
+      filled = subst (λ (gaps : List Extent). IfSome (g.F.LayerSource.files c.args.source.now) (λ files. AreFilled (sectors_by files cells) c.args.at gaps c.args.out.now c.read_gap.new.out)) (sym more)
+          (filled-on (g.F.LayerSource.files c.args.source.now) (g.F.LayerSource.files c.loop-gap.source) cells c.args.at (take c.loop-gap.gap-index c.args.gaps.now) gap
           c.args.out.now c.loop-gap.out c.read_gap.new.out before.files before.filled c.in_ok-read_gap.ensures.filled);
-      files = c.read_gap.ensures.same_files ∙ before.files;
-      count = c.read_gap.ensures.same_count ∙ before.count;
-      faults = omega (arith, c.read_gap.ensures.cause.later, before.faults);
+      files = c.read_gap.ensures.same.files ∙ before.files;
+      count = c.read_gap.ensures.same.count ∙ before.count;
+      reads = g.met.F.LayerSource.joined c.args.source.now c.loop-gap.source c.read_gap.new.source before.reads c.in_ok-read_gap.ensures.reads;
     }
 
 pub returns-clause-filled : goal.returns-clause-filled
 returns-clause-filled g c =
     let cells = cells_of c.args.self.now.index in
     let all : take c.loop-gap.gap-index c.args.gaps.now ≡ c.args.gaps.now = take_all c.loop-gap.gap-index c.args.gaps.now (omega arith) in
-    subst (λ (gaps : List Extent). IfSome (g.S.Shelf.files c.args.shelf.now) (λ files. AreFilled (sectors_by files cells) c.args.at gaps c.args.out.now c.loop-gap.out)) all
+    subst (λ (gaps : List Extent). IfSome (g.F.LayerSource.files c.args.source.now) (λ files. AreFilled (sectors_by files cells) c.args.at gaps c.args.out.now c.loop-gap.out)) all
     c.loop-gap.invariant.filled

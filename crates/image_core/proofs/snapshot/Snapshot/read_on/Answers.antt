@@ -1,4 +1,4 @@
-use Rattle.std.proofs.Common.{List, ℕ, ◌+◌, ◌∙◌, refl, sym, subst, arith, take, drop}
+use Rattle.std.proofs.Common.{◌≡◌, List, ℕ, ◌+◌, ◌∙◌, refl, sym, subst, arith, take, drop}
 use Rattle.sealed_layer.proofs.Told.{IfSome-each}
 use Rattle.merged_index.specs.declared.piece.Piece.{Piece}
 use Rattle.merged_index.specs.Cells.{cells_of}
@@ -24,10 +24,10 @@ loop-piece-init g c =
       within = omega (arith, found.ensures.within, c.behind.ensures.end);
       cells = here;
       pending = c.requires.pending;
-      filled = IfSome-each (g.S.Shelf.files c.args.shelf.now) (λ files told. fills-none (sectors_by files cells) c.args.at run.extent.at run.extent.at c.args.out.now refl);
+      filled = IfSome-each (g.F.LayerSource.files c.args.source.now) (λ files told. fills-none (sectors_by files cells) c.args.at run.extent.at run.extent.at c.args.out.now refl);
       files = refl;
       count = refl;
-      faults = omega arith;
+      reads = g.met.F.LayerSource.none c.args.source.now;
     }
 
 pub go_on-requires-clause-named : goal.go_on-requires-clause-named
@@ -59,9 +59,9 @@ loop-piece-preserved g c =
       within = before.within;
       cells = subst (λ (k : ℕ). AreCells cells k before.until (drop (c.loop-piece.piece-index + 1) c.split_at.result.0.now)) (sym c.in_ok-run.ensures.end) here.2;
       pending = c.in_ok-run.ensures.pending;
-      filled = fills-on (g.S.Shelf.files c.args.shelf.now) (g.S.Shelf.files c.loop-piece.shelf) cells c.args.at c.args.run.now.extent.at c.loop-piece.run.extent.at
+      filled = fills-on (g.F.LayerSource.files c.args.source.now) (g.F.LayerSource.files c.loop-piece.source) cells c.args.at c.args.run.now.extent.at c.loop-piece.run.extent.at
           c.in_ok-run.run'.extent.at c.args.out.now c.loop-piece.out c.go_on.new.out before.files before.filled c.in_ok-run.ensures.filled;
-      files = c.go_on.ensures.same_files ∙ before.files;
-      count = c.go_on.ensures.same_count ∙ before.count;
-      faults = omega (arith, c.go_on.ensures.cause.later, before.faults);
+      files = c.go_on.ensures.same.files ∙ before.files;
+      count = c.go_on.ensures.same.count ∙ before.count;
+      reads = g.met.F.LayerSource.joined c.args.source.now c.loop-piece.source c.go_on.new.source before.reads c.in_ok-run.ensures.reads;
     }

@@ -11,9 +11,9 @@ invariant-loop-piece g l = record {
   further : end_of l.fn.run < until;
   within : until ≤ l.gap.at + l.gap.count;
   cells : AreCells (cells_of l.self.index) (end_of l.run) until (drop l.piece-index l.pieces);
-  pending : Pending (g.S.Shelf.count l.shelf) (cells_of l.self.index) l.at (length l.out) l.run;
-  filled : IfSome (g.S.Shelf.files l.fn.shelf) (λ files. IsFilled (sectors_by files (cells_of l.self.index)) l.at l.fn.run.extent.at l.run.extent.at l.fn.out l.out);
-  files : g.S.Shelf.files l.shelf ≡ g.S.Shelf.files l.fn.shelf;
-  count : g.S.Shelf.count l.shelf ≡ g.S.Shelf.count l.fn.shelf;
-  faults : g.S.Shelf.faults l.fn.shelf ≤ g.S.Shelf.faults l.shelf;
+  pending : Pending (g.F.LayerSource.layers l.source) (cells_of l.self.index) l.at (length l.out) l.run;
+  filled : IfSome (g.F.LayerSource.files l.fn.source) (λ files. IsFilled (sectors_by files (cells_of l.self.index)) l.at l.fn.run.extent.at l.run.extent.at l.fn.out l.out);
+  files : g.F.LayerSource.files l.source ≡ g.F.LayerSource.files l.fn.source;
+  count : g.F.LayerSource.layers l.source ≡ g.F.LayerSource.layers l.fn.source;
+  reads : g.F.LayerSource.reads l.fn.source l.source;
 }
