@@ -1,90 +1,120 @@
--- What the top call says, from what its commands say.
-use Rattle.std.proofs.Common.{◌≡◌, ℕ, true, false, List, refl, arith, inl, inr}
-use Rattle.std.specs.Prelude.{Option, Some, None, IfSome, ◌⊎◌}
-use Rattle.overlay_tool.specs.declared.words.Command.{Command}
-use Rattle.overlay_tool.specs.declared.words.Command.TheVariants.{Flatten, Info, Stack}
-use Rattle.overlay_tool.specs.declared.refusal.Refusal.{Refusal}
-use Rattle.overlay_tool.specs.declared.refusal.Refusal.TheVariants as refused
-use Rattle.overlay_tool.specs.Texts.{code_of}
-use Rattle.overlay_tool.specs.Prints.{Prints, read_by}
-use Rattle.overlay_tool.specs.Causes.{Ports, Cause, IsCalm, source_ports, shelf_ports}
-use Rattle.overlay_tool.proofs.Pieces.{IfSome-each}
-
--- the objects that a command does not use do not count
-pub from_source : (l l' w w' : Option (List ℕ)) (f f' : Option (List (List ℕ))) (a a' s s' n n' h h' : ℕ) (refusal : Refusal)
-    → Cause (Flatten true) (source_ports l a w s) (source_ports l' a' w' s') refusal
-    → Cause (Flatten true) (record { left = l; source_faults = a; written = w; sink_faults = s; files = f; count = n; shelf_faults = h }) (record { left = l'; source_faults = a'; written = w'; sink_faults = s'; files = f'; count = n'; shelf_faults = h' }) refusal
-from_source l l' w w' f f' a a' s s' n n' h h' refused.SourceFault cause = cause
-from_source l l' w w' f f' a a' s s' n n' h h' refused.SinkFault cause = cause
-from_source l l' w w' f f' a a' s s' n n' h h' refused.TooLong cause = cause
-from_source l l' w w' f f' a a' s s' n n' h h' refused.Memory cause = cause
-from_source l l' w w' f f' a a' s s' n n' h h' (refused.Layer number fault) cause = cause
-from_source l l' w w' f f' a a' s s' n n' h h' refused.ShelfFault cause = absurd (cause.0 tt)
-from_source l l' w w' f f' a a' s s' n n' h h' refused.NoLayer cause = absurd (let same = cause.0.1 in cc)
-from_source l l' w w' f f' a a' s s' n n' h h' (refused.Stack fault) cause = absurd cause.0
-from_source l l' w w' f f' a a' s s' n n' h h' other cause = absurd cause
-
-pub from_flatten : (l l' w w' : Option (List ℕ)) (f f' : Option (List (List ℕ))) (a a' s s' n n' h h' : ℕ) (refusal : Refusal)
-    → Cause (Flatten false) (shelf_ports f n h w s) (shelf_ports f' n' h' w' s') refusal
-    → Cause (Flatten false) (record { left = l; source_faults = a; written = w; sink_faults = s; files = f; count = n; shelf_faults = h }) (record { left = l'; source_faults = a'; written = w'; sink_faults = s'; files = f'; count = n'; shelf_faults = h' }) refusal
-from_flatten l l' w w' f f' a a' s s' n n' h h' refused.SinkFault cause = cause
-from_flatten l l' w w' f f' a a' s s' n n' h h' refused.ShelfFault cause = cause
-from_flatten l l' w w' f f' a a' s s' n n' h h' refused.NoLayer cause = cause
-from_flatten l l' w w' f f' a a' s s' n n' h h' refused.Memory cause = cause
-from_flatten l l' w w' f f' a a' s s' n n' h h' refused.SourceFault cause = absurd cause.0
-from_flatten l l' w w' f f' a a' s s' n n' h h' refused.TooLong cause = absurd cause.0
-from_flatten l l' w w' f f' a a' s s' n n' h h' (refused.Layer number fault) cause = cause
-from_flatten l l' w w' f f' a a' s s' n n' h h' (refused.Stack fault) cause = cause
-from_flatten l l' w w' f f' a a' s s' n n' h h' other cause = absurd cause
-
-pub from_stack : (l l' w w' : Option (List ℕ)) (f f' : Option (List (List ℕ))) (a a' s s' n n' h h' : ℕ) (refusal : Refusal)
-    → Cause Stack (shelf_ports f n h w s) (shelf_ports f' n' h' w' s') refusal
-    → Cause Stack (record { left = l; source_faults = a; written = w; sink_faults = s; files = f; count = n; shelf_faults = h }) (record { left = l'; source_faults = a'; written = w'; sink_faults = s'; files = f'; count = n'; shelf_faults = h' }) refusal
-from_stack l l' w w' f f' a a' s s' n n' h h' refused.SinkFault cause = cause
-from_stack l l' w w' f f' a a' s s' n n' h h' refused.ShelfFault cause = cause
-from_stack l l' w w' f f' a a' s s' n n' h h' refused.NoLayer cause = cause
-from_stack l l' w w' f f' a a' s s' n n' h h' refused.Memory cause = cause
-from_stack l l' w w' f f' a a' s s' n n' h h' refused.SourceFault cause = absurd cause.0
-from_stack l l' w w' f f' a a' s s' n n' h h' refused.TooLong cause = absurd cause.0
-from_stack l l' w w' f f' a a' s s' n n' h h' (refused.Layer number fault) cause = cause
-from_stack l l' w w' f f' a a' s s' n n' h h' (refused.Stack fault) cause = cause
-from_stack l l' w w' f f' a a' s s' n n' h h' other cause = absurd cause
-
-pub from_info : (l l' w w' : Option (List ℕ)) (f f' : Option (List (List ℕ))) (a a' s s' n n' h h' : ℕ) (k : ℕ) (refusal : Refusal)
-    → Cause (Info k) (shelf_ports f n h w s) (shelf_ports f' n' h' w' s') refusal
-    → Cause (Info k) (record { left = l; source_faults = a; written = w; sink_faults = s; files = f; count = n; shelf_faults = h }) (record { left = l'; source_faults = a'; written = w'; sink_faults = s'; files = f'; count = n'; shelf_faults = h' }) refusal
-from_info l l' w w' f f' a a' s s' n n' h h' k refused.SinkFault cause = cause
-from_info l l' w w' f f' a a' s s' n n' h h' k refused.ShelfFault cause = cause
-from_info l l' w w' f f' a a' s s' n n' h h' k refused.NoLayer cause = cause
-from_info l l' w w' f f' a a' s s' n n' h h' k refused.Memory cause = cause
-from_info l l' w w' f f' a a' s s' n n' h h' k refused.SourceFault cause = absurd cause.0
-from_info l l' w w' f f' a a' s s' n n' h h' k refused.TooLong cause = absurd cause.0
-from_info l l' w w' f f' a a' s s' n n' h h' k (refused.Layer number fault) cause = cause
-from_info l l' w w' f f' a a' s s' n n' h h' k (refused.Stack fault) cause = cause
-from_info l l' w w' f f' a a' s s' n n' h h' k other cause = absurd cause
+-- Statuses, and what a run says that was refused or not.
+use Rattle.std.proofs.Common.{◌≡◌, ◌≢◌, ℕ, List, [], length, refl, sym, ap, ◌∙◌, subst, arith, inl, inr}
+use Rattle.std.specs.Prelude.{Option, Some, None, IfSome, ◌⊎◌, Result, Ok, Err, OnOk, IfErr}
+use Rattle.std.specs.Result.{IsErrOf}
+use Rattle.block_disk.specs.Claims.{Quiet}
+use Rattle.tool_setup.specs.declared.words.Command.{Command}
+use Rattle.tool_setup.specs.declared.words.Command.TheVariants.{Flatten, Info, Stack, Create, Read, Write, Zero}
+use Rattle.layer_commands.specs.declared.refusal.Refusal.{Refusal}
+use Rattle.layer_commands.specs.declared.refusal.Refusal.TheVariants as refused
+use Rattle.layer_commands.specs.Texts.{code_of}
+use Rattle.layer_commands.specs.Ports.{Ports}
+use Rattle.layer_commands.specs.Prints.{Prints, read_by}
+use Rattle.layer_commands.specs.Causes.{AreCharged, Cause, IsCalm, IsMissing, IsOverLayers, PrintsAll}
+use Rattle.layer_commands.proofs.Pieces.{IfSome-each}
+use Rattle.layer_commands.proofs.Charged.{charges_as}
+use Rattle.layer_commands.proofs.Refusals.{only_memory}
+use Rattle.image_commands.specs.declared.refusal.ImageRefusal.{ImageRefusal}
+use Rattle.image_commands.specs.declared.refusal.ImageRefusal.TheVariants.{Load, Other}
+use Rattle.image_commands.specs.ImageTexts.{image_code}
+use Rattle.image_commands.specs.Images.{DiskPort}
+use Rattle.image_commands.specs.ImageCauses.{IsWrite, CommandCause}
+use Rattle.image_commands.specs.ImageSteps.{told_as}
+use Rattle.image_commands.specs.Clear.{IsClear}
+use Rattle.image_commands.proofs.ClearLaws.{clear-command}
+use Rattle.overlay_tool.specs.Runs.{AreMissing, Fails, IsComplete, PrintFails, Succeeds, WordsFail}
 
 -- ---- statuses
 
-pub code_two : (refusal : Refusal) → code_of refusal ≡ 2 → refusal ≡ refused.Usage
-code_two refused.Usage e = refl
-code_two other e = absurd (omega (arith, e))
+pub code_two : (refusal : ImageRefusal) → image_code refusal ≡ 2 → refusal ≡ Other refused.Usage
+code_two (Other refused.Usage) e = refl
+code_two (Other other) e = absurd (omega (arith, e))
+code_two (Load fault) e = absurd (omega (arith, e))
 
--- want of memory may be told in place of any refusal of a command
-pub memory_instead : (command : Command) (before now : Ports) (refusal : Refusal) → Cause command before now refusal → Cause command before now refused.Memory
-memory_instead command before now refused.SourceFault cause = inl cause.2
-memory_instead command before now refused.SinkFault cause = inr cause.1
-memory_instead command before now refused.ShelfFault cause = cause.2
-memory_instead command before now refused.Memory cause = cause
-memory_instead command before now refused.TooLong cause = inl cause.2
-memory_instead command before now refused.NoLayer cause = inl cause.1
-memory_instead command before now (refused.Layer number fault) cause = inl cause.1
-memory_instead command before now (refused.Stack fault) cause = inl cause.2
-memory_instead command before now other cause = absurd cause
+-- no command is refused as a faulty command line
+not-usage : (command : Command) (before now : Ports) (disk disk_now : DiskPort) → Fails command before now disk disk_now (Other refused.Usage) → ⊥
+not-usage (Create sectors) before now disk disk_now cause = cause
+not-usage (Read at count) before now disk disk_now cause = cause
+not-usage (Write at) before now disk disk_now cause = cause
+not-usage (Zero at count) before now disk disk_now cause = cause
+not-usage (Flatten stdin) before now disk disk_now cause = cause.0
+not-usage (Info number) before now disk disk_now cause = cause.0
+not-usage Stack before now disk disk_now cause = cause.0
 
-abbrev pub IsComplete : Option Command → Ports → Ports → ℕ → Type 0
-IsComplete command before now code = IfSome command (λ command. IfSome (read_by command before.left before.files) (λ files.
-    (bytes : List ℕ) → Prints command files bytes → IsCalm before now → (code ≡ 0) ⊎ (code ≡ 5)))
+pub usage-only : (command : Option Command) (before now : Ports) (disk disk_now : DiskPort) (told : ImageRefusal) → WordsFail command before now disk disk_now told → (code : ℕ) → code ≡ image_code told
+    → (code ≡ 2 → command ≡ None) × (command ≡ None → code ≡ 2)
+usage-only None before now disk disk_now told cause code is = ((λ two. refl), (λ none. is ∙ ap (λ (r : ImageRefusal). image_code r) cause.0))
+usage-only (Some command) before now disk disk_now told cause code is = (
+  (λ two. absurd (not-usage command before now disk disk_now (subst (λ (r : ImageRefusal). Fails command before now disk disk_now r) (code_two told (sym is ∙ two)) cause))),
+  (λ none. absurd (cc)),
+)
+
+-- ---- where nothing stands in the way
 
 pub complete_done : (command : Option Command) (before now : Ports) (code : ℕ) → code ≡ 0 → IsComplete command before now code
 complete_done None before now code is = tt
 complete_done (Some command) before now code is = IfSome-each (read_by command before.left before.files) (λ files e bytes prints calm. inl is)
+
+print-complete : (command : Command) (before now : Ports) (disk disk_now : DiskPort) (told : ImageRefusal) (code : ℕ) → IfSome before.files (λ files. length files ≡ before.count)
+    → PrintFails command before now disk disk_now told → AreCharged before now (λ r. told ≡ Other r) → code ≡ image_code told → IsComplete (Some command) before now code
+print-complete command before now disk disk_now (Load fault) code counted cause charged is = absurd cause
+print-complete command before now disk disk_now (Other told) code counted cause charged is =
+    IfSome-each (read_by command before.left before.files) (λ files e bytes prints calm.
+    inr (is ∙ ap (λ (r : Refusal). code_of r) (only_memory command before now files bytes e counted prints calm (λ r. Other told ≡ Other r) charged told refl cause.0)))
+
+complete-command : (command : Command) (before now : Ports) (disk disk_now : DiskPort) (told : ImageRefusal) (code : ℕ) → IfSome before.files (λ files. length files ≡ before.count)
+    → Fails command before now disk disk_now told → AreCharged before now (λ r. told ≡ Other r) → code ≡ image_code told → IsComplete (Some command) before now code
+complete-command (Create sectors) before now disk disk_now told code counted cause charged is = IfSome-each (read_by (Create sectors) before.left before.files) (λ files e bytes prints calm. absurd prints)
+complete-command (Read at count) before now disk disk_now told code counted cause charged is = IfSome-each (read_by (Read at count) before.left before.files) (λ files e bytes prints calm. absurd prints)
+complete-command (Write at) before now disk disk_now told code counted cause charged is = IfSome-each (read_by (Write at) before.left before.files) (λ files e bytes prints calm. absurd prints)
+complete-command (Zero at count) before now disk disk_now told code counted cause charged is = IfSome-each (read_by (Zero at count) before.left before.files) (λ files e bytes prints calm. absurd prints)
+complete-command (Flatten stdin) before now disk disk_now told code counted cause charged is = print-complete (Flatten stdin) before now disk disk_now told code counted cause charged is
+complete-command (Info number) before now disk disk_now told code counted cause charged is = print-complete (Info number) before now disk disk_now told code counted cause charged is
+complete-command Stack before now disk disk_now told code counted cause charged is = print-complete Stack before now disk disk_now told code counted cause charged is
+
+pub complete-refused : (command : Option Command) (before now : Ports) (disk disk_now : DiskPort) (told : ImageRefusal) (code : ℕ) → IfSome before.files (λ files. length files ≡ before.count)
+    → WordsFail command before now disk disk_now told → AreCharged before now (λ r. told ≡ Other r) → code ≡ image_code told → IsComplete command before now code
+complete-refused None before now disk disk_now told code counted cause charged is = tt
+complete-refused (Some command) before now disk disk_now told code counted cause charged is = complete-command command before now disk disk_now told code counted cause charged is
+
+clear-fails : (command : Command) (before now : Ports) (disk disk_now : DiskPort) (refusal : ImageRefusal) → IfSome before.files (λ files. length files ≡ before.count)
+    → IsClear command before now disk disk_now → Fails command before now disk disk_now refusal → refusal ≡ Other refused.Memory
+clear-fails (Create sectors) before now disk disk_now refusal counted clear cause = clear-command (Create sectors) before now disk disk_now refusal counted clear cause
+clear-fails (Read at count) before now disk disk_now refusal counted clear cause = clear-command (Read at count) before now disk disk_now refusal counted clear cause
+clear-fails (Write at) before now disk disk_now refusal counted clear cause = clear-command (Write at) before now disk disk_now refusal counted clear cause
+clear-fails (Zero at count) before now disk disk_now refusal counted clear cause = clear-command (Zero at count) before now disk disk_now refusal counted clear cause
+clear-fails (Flatten stdin) before now disk disk_now refusal counted clear cause = absurd clear.ready
+clear-fails (Info number) before now disk disk_now refusal counted clear cause = absurd clear.ready
+clear-fails Stack before now disk disk_now refusal counted clear cause = absurd clear.ready
+
+pub clear-run : (command : Option Command) (before now : Ports) (disk disk_now : DiskPort) (refusal : ImageRefusal) (code : ℕ) → IfSome before.files (λ files. length files ≡ before.count)
+    → WordsFail command before now disk disk_now refusal → code ≡ image_code refusal
+    → IfSome command (λ command. IsClear command before now disk disk_now → (code ≡ 0) ⊎ (code ≡ 5))
+clear-run None before now disk disk_now refusal code counted cause is = tt
+clear-run (Some command) before now disk disk_now refusal code counted cause is =
+    λ clear. inr (is ∙ ap (λ (r : ImageRefusal). image_code r) (clear-fails command before now disk disk_now refusal counted clear cause))
+
+pub clear-done : (command : Option Command) (before now : Ports) (disk disk_now : DiskPort) (code : ℕ) → code ≡ 0
+    → IfSome command (λ command. IsClear command before now disk disk_now → (code ≡ 0) ⊎ (code ≡ 5))
+clear-done None before now disk disk_now code is = tt
+clear-done (Some command) before now disk disk_now code is = λ clear. inl is
+
+-- ---- whose fault is told
+
+told-by : (r : Result (Unit {0}) ImageRefusal) (refusal : ImageRefusal) (x : Refusal) → r ≡ Err refusal → IsErrOf r (Other x) → refusal ≡ Other x
+told-by r refusal x is told = cc
+
+by-told : (r : Result (Unit {0}) ImageRefusal) (refusal : ImageRefusal) (x : Refusal) → r ≡ Err refusal → refusal ≡ Other x → IsErrOf r (Other x)
+by-told r refusal x is same = is ∙ ap (λ (y : ImageRefusal). Err y) same
+
+-- the answer is that refusal
+pub charged-by : (before now : Ports) (r : Result (Unit {0}) ImageRefusal) (refusal : ImageRefusal) → r ≡ Err refusal → AreCharged before now (λ x. IsErrOf r (Other x))
+    → AreCharged before now (λ x. refusal ≡ Other x)
+charged-by before now r refusal is charged = record {
+  source = charges_as (λ (p : Ports). p.source_faults) before now (IsErrOf r (Other refused.SourceFault)) (refusal ≡ Other refused.SourceFault)
+      (told-by r refusal refused.SourceFault is) (by-told r refusal refused.SourceFault is) charged.source;
+  sink = charges_as (λ (p : Ports). p.sink_faults) before now (IsErrOf r (Other refused.SinkFault)) (refusal ≡ Other refused.SinkFault)
+      (told-by r refusal refused.SinkFault is) (by-told r refusal refused.SinkFault is) charged.sink;
+  shelf = charges_as (λ (p : Ports). p.shelf_faults) before now (IsErrOf r (Other refused.ShelfFault)) (refusal ≡ Other refused.ShelfFault)
+      (told-by r refusal refused.ShelfFault is) (by-told r refusal refused.ShelfFault is) charged.shelf;
+}

@@ -1,7 +1,6 @@
 //! Runs of the commands on an image.
 use crate::tests::first;
 use crate::tool::run_tool;
-use crate::words::WordList;
 use block_disk::{Disk, FolderDisk, MemDisk, PathText};
 use byte_ports::{MemSink, MemSource};
 use layer_shelf::MemShelf;
@@ -10,6 +9,7 @@ use std::alloc::{AllocError, Global};
 use std::fs;
 use std::process::Abort;
 use std::test::Fail;
+use tool_setup::WordList;
 
 fn no_calls(alloc: Global) -> CallList {
     CallList::from_vec(Vec::new(alloc))
@@ -31,7 +31,7 @@ fn run_on<D: Disk + Drop>(
 ) -> Result<(u8, Bytes, Bytes, D), AllocError> {
     let mut list = Vec::new(alloc);
     for word in words {
-        list.push(text(alloc, word.as_bytes())?)?;
+        list.push(String::from_str(alloc, word)?)?;
     }
     let mut files = Vec::new(alloc);
     for lower in lowers {

@@ -3,41 +3,25 @@
 //! writes and zeros the image of a disk over a stack of layers.
 #![tactic(auto)]
 
-mod changing;
-mod commands;
-mod copying;
-mod flat_fault;
-mod flattening;
 #[cfg(test)]
 mod image_tests;
-mod image_texts;
-mod images;
-mod input;
-mod layer_texts;
-mod making;
-mod one_layer;
-mod opening;
-mod reading;
-mod refusal;
-mod reports;
-mod stacks;
 #[cfg(test)]
 mod tests;
-#[cfg(test)]
-mod text_tests;
 mod tool;
 mod words;
 
-use crate::refusal::Refusal;
 use crate::tool::{refuse, run_tool};
-use crate::words::WordList;
+use crate::words::words_behind;
 use block_disk::MemDisk;
 use byte_ports::{StdSink, StdSource};
+use image_commands::ImageRefusal;
+use layer_commands::Refusal;
 use layer_shelf::MemShelf;
-use sector_extent::{Bytes, CallList, FileTexts};
+use sector_extent::{CallList, FileTexts};
 use std::env;
 use std::io::ErrorKind;
 use std::process::ExitCode;
+use tool_setup::WordList;
 
 fn main(rt: HostRuntime) -> ExitCode {
     let mut notes = StdSink::new(rt.stderr());
@@ -58,25 +42,24 @@ fn main(rt: HostRuntime) -> ExitCode {
             );
             ExitCode::from(status.code)
         }
-        Err(refusal) => ExitCode::from(refuse(rt.alloc(), refusal, &mut notes).code()),
+        Err(refusal) => {
+            refuse(ImageRefusal::Other(refusal), &mut notes);
+            ExitCode::from(refusal.code())
+        }
     }
 }
 
-/// The words behind the name of the program. A word that is no text is a faulty command line.
+// The words behind the name of the program. A word that is no text is a faulty command line.
 fn read_args(rt: &HostRuntime) -> Result<WordList, Refusal> {
-    let args = match env::args(rt) {
-        Ok(args) => args,
-        Err(error) => {
-            return Err(if error.kind() == ErrorKind::OutOfMemory {
-                Refusal::Memory
-            } else {
-                Refusal::Usage
-            });
+    match env::args(rt) {
+        Ok(args) => {
+            let words: Vec<String> = args.collect(rt.alloc())?;
+            Ok(words_behind(words))
         }
-    };
-    let mut words = Vec::new(rt.alloc());
-    for word in args.skip(1) {
-        words.push(Bytes::from_vec(word.into_bytes()))?;
+        Err(error) => Err(if error.kind() == ErrorKind::OutOfMemory {
+            Refusal::Memory
+        } else {
+            Refusal::Usage
+        }),
     }
-    Ok(WordList::from_vec(words))
 }

@@ -1,5 +1,4 @@
 use crate::tool::{Status, run_tool};
-use crate::words::WordList;
 use block_disk::MemDisk;
 use byte_ports::{MemSink, MemSource};
 use layer_shelf::MemShelf;
@@ -7,6 +6,7 @@ use sector_extent::{Bytes, CallList, FileTexts};
 use std::alloc::{AllocError, Global};
 use std::process::Abort;
 use std::test::Fail;
+use tool_setup::WordList;
 
 /// Rows (1, 2, place 8) and (2, 1, zeroed).
 const FILLED_ROW: [u8; 16] = [1, 0, 0, 0, 0, 0, 8, 0, 8, 0, 0, 0, 0, 0, 0, 0];
@@ -88,7 +88,7 @@ fn run(
 ) -> Result<Ran, AllocError> {
     let mut list = Vec::new(alloc);
     for word in words {
-        list.push(bytes_of(alloc, word.as_bytes())?)?;
+        list.push(String::from_str(alloc, word)?)?;
     }
     assert!(rt; files.len() < 9);
     let mut source = MemSource::new(bytes_of(alloc, input)?, no_calls(alloc));
@@ -202,8 +202,8 @@ fn layers_are_told(rt: HostRuntime) -> Result<(), Fail> {
     assert_eq!(rt; head.out.as_slice(), lines.as_bytes());
     let files = pair(rt.alloc(), first(rt.alloc())?, second(rt.alloc())?)?;
     let stack = run(&rt, rt.alloc(), &["stack"], b"", files)?;
-    let lines =
-        "0 11111111-1111-1111-1111-111111111111 sectors 4 rows 1\n1 22222222-2222-2222-2222-222222222222 sectors 4 rows 0\n";
+    let lines = "0 11111111-1111-1111-1111-111111111111 sectors 4 rows 1\n\
+        1 22222222-2222-2222-2222-222222222222 sectors 4 rows 0\n";
     assert_eq!(rt; stack.status.code, 0);
     assert_eq!(rt; stack.out.as_slice(), lines.as_bytes());
     let files = pair(rt.alloc(), first(rt.alloc())?, second(rt.alloc())?)?;
@@ -294,35 +294,5 @@ fn words_that_are_no_command_are_refused(rt: HostRuntime) -> Result<(), Fail> {
             "refused: usage\n",
         );
     }
-    Ok(())
-}
-
-#[test]
-fn a_failing_source_is_told(rt: HostRuntime) -> Result<(), Fail> {
-    let mut list = Vec::new(rt.alloc());
-    list.push(bytes_of(rt.alloc(), b"flatten")?)?;
-    list.push(bytes_of(rt.alloc(), b"--stdin")?)?;
-    let words = WordList::from_vec(list);
-    let failing = CallList::from_vec([1].to_vec(rt.alloc())?);
-    let mut source = MemSource::new(Bytes::from_vec(first(rt.alloc())?), failing);
-    let mut out = MemSink::new(rt.alloc(), no_calls(rt.alloc()));
-    let mut notes = MemSink::new(rt.alloc(), no_calls(rt.alloc()));
-    let files = FileTexts::from_vec(Vec::new(rt.alloc()));
-    let mut shelf = MemShelf::new(files, no_calls(rt.alloc()));
-    let (status, _disk) = run_tool(
-        rt.alloc(),
-        &words,
-        &mut source,
-        &mut out,
-        &mut notes,
-        MemDisk::new(rt.alloc()),
-        &mut shelf,
-    );
-    assert_eq!(rt; status.code, 4);
-    assert_eq!(rt;
-        notes.into_bytes().as_slice(),
-        b"refused: source fault\n".as_slice()
-    );
-    assert_eq!(rt; out.into_bytes().as_slice().len(), 0);
     Ok(())
 }

@@ -1,26 +1,112 @@
 //! The top call: what the words ask for, and how a refusal is told.
-ghost use Rattle.std.specs.Prelude.{◌≡◌, ◌≢◌, ◌⊎◌, ◌↔◌, ℕ, List, None, Some, IfErr, IfSome, IsSome, OnOk};
-ghost use Rattle.std.specs.Io.KnownBytes.{Keeps};
-ghost use Rattle.overlay_tool.specs.Words.{command_of};
-ghost use Rattle.overlay_tool.specs.Prints.{Prints, read_by};
-ghost use Rattle.overlay_tool.specs.Clear.{IsClear};
-ghost use Rattle.overlay_tool.specs.Runs.{IsOverLayers, IsSized, Succeeds, Fails, WordsFail, RunFails};
-ghost use Rattle.overlay_tool.specs.Causes.{Cause, IsCalm, IsNoted, PrintsAll, TakesAtMost, most_taken};
+ghost use Rattle.std.specs.Prelude.{◌≡◌, ◌≢◌, ◌↔◌, ◌⊎◌, map, string_bytes, None, Some, IfErr, IfSome, IsErrOf, IsSome, OnOk};
+ghost use Rattle.tool_setup.specs.Words.{command_of};
+ghost use Rattle.layer_commands.specs.declared.refusal.Refusal.TheVariants as refused;
+ghost use Rattle.layer_commands.specs.Texts.{line_of};
+ghost use Rattle.layer_commands.specs.Ports.{TakesAtMost, notes_of, ports_of};
+ghost use Rattle.layer_commands.specs.Causes.{IsMissing, IsNoted, most_taken};
+ghost use Rattle.image_commands.specs.declared.refusal.ImageRefusal.TheVariants.{Other};
+ghost use Rattle.image_commands.specs.ImageTexts.{image_text};
+ghost use Rattle.image_commands.specs.Images.{disk_port};
+ghost use Rattle.overlay_tool.specs.Runs.{moment, most_of, AllCharged, AreMissing, Fails, IsComplete, IsImageComplete};
+ghost use Rattle.overlay_tool.specs.Runs.{IsSized, RunFails, RunSucceeds, Succeeds, WordsFail};
 
-use crate::commands::{flatten_shelf, print_head, print_stack};
-use crate::images::{create_image, read_image, write_image, zero_image};
-use crate::one_layer::flatten_source;
-use crate::refusal::Refusal;
-use crate::words::{Command, WordList, read_words};
 use block_disk::Disk;
 use byte_ports::{Sink, Source};
+use image_commands::{
+    ImageRefusal, as_command, create_image, push_image_refusal, read_image, write_image, zero_image,
+};
+use layer_commands::{Line, Refusal, run_layers};
 use layer_shelf::Shelf;
 use std::alloc::Global;
+use tool_setup::{Command, WordList, read_words};
 
 /// How a run ends: 0 where it did what the words ask for, else 2 to 6.
 #[derive(Clone, Copy, Debug, PartialEq, Eq)]
 pub struct Status {
     pub code: u8,
+}
+
+// Runs a command.
+fn run_command<A: Source, B: Sink, D: Disk, S: Shelf>(
+    alloc: Global,
+    command: Command,
+    source: &mut A,
+    out: &mut B,
+    disk: D,
+    shelf: &mut S,
+) -> (Result<(), ImageRefusal>, D)
+    requires { IsSized command }
+    ensures done { OnOk result.0 (Succeeds command
+        (ports_of A.Source B.Sink S.Shelf source.old out.old shelf.old)
+        (ports_of A.Source B.Sink S.Shelf source.new out.new shelf.new)
+        (disk_port D.Disk disk) (disk_port D.Disk result.1)) }
+    ensures refused { IfErr result.0 (Fails command
+        (ports_of A.Source B.Sink S.Shelf source.old out.old shelf.old)
+        (ports_of A.Source B.Sink S.Shelf source.new out.new shelf.new)
+        (disk_port D.Disk disk) (disk_port D.Disk result.1)) }
+    ensures charged { AllCharged
+        (ports_of A.Source B.Sink S.Shelf source.old out.old shelf.old)
+        (ports_of A.Source B.Sink S.Shelf source.new out.new shelf.new)
+        (disk_port D.Disk disk) (disk_port D.Disk result.1) (λ refusal. IsErrOf result.0 (Other refusal)) }
+    ensures missing { IsMissing command (S.count shelf.old)
+        → IsErrOf result.0 (Other refused.NoLayer) × (shelf.new ≡ shelf.old) }
+    ensures within { TakesAtMost (A.left source.old) (A.left source.new) (most_taken command) }
+{
+    match command {
+        Command::Create(asked) => create_image(alloc, asked, shelf, disk, out),
+        Command::Read { at, count } => read_image(alloc, at, count, shelf, disk, out),
+        Command::Write { at } => write_image(alloc, at, source, shelf, disk, out),
+        Command::Zero { at, count } => zero_image(alloc, at, count, shelf, disk, out),
+        Command::Flatten { .. } | Command::Info(_) | Command::Stack => {
+            let answer = run_layers(alloc, command, source, out, shelf);
+            (as_command(answer), disk)
+        }
+    }
+}
+
+// Runs the command that the words are.
+fn run_words<A: Source, B: Sink, D: Disk, S: Shelf>(
+    alloc: Global,
+    words: &WordList,
+    source: &mut A,
+    out: &mut B,
+    disk: D,
+    shelf: &mut S,
+) -> (Result<(), ImageRefusal>, D)
+    ensures done { OnOk result.0 (IfSome (command_of (map string_bytes words.now)) (λ command. Succeeds command
+        (ports_of A.Source B.Sink S.Shelf source.old out.old shelf.old)
+        (ports_of A.Source B.Sink S.Shelf source.new out.new shelf.new)
+        (disk_port D.Disk disk) (disk_port D.Disk result.1))) }
+    ensures some { OnOk result.0 (IsSome (command_of (map string_bytes words.now))) }
+    ensures refused { IfErr result.0 (WordsFail (command_of (map string_bytes words.now))
+        (ports_of A.Source B.Sink S.Shelf source.old out.old shelf.old)
+        (ports_of A.Source B.Sink S.Shelf source.new out.new shelf.new)
+        (disk_port D.Disk disk) (disk_port D.Disk result.1)) }
+    ensures charged { AllCharged
+        (ports_of A.Source B.Sink S.Shelf source.old out.old shelf.old)
+        (ports_of A.Source B.Sink S.Shelf source.new out.new shelf.new)
+        (disk_port D.Disk disk) (disk_port D.Disk result.1) (λ refusal. IsErrOf result.0 (Other refusal)) }
+    ensures missing { AreMissing (command_of (map string_bytes words.now)) (S.count shelf.old)
+        → IsErrOf result.0 (Other refused.NoLayer) × (shelf.new ≡ shelf.old) }
+    ensures within { TakesAtMost (A.left source.old) (A.left source.new)
+        (most_of (command_of (map string_bytes words.now))) }
+{
+    match read_words(words) {
+        None => (Err(ImageRefusal::Other(Refusal::Usage)), disk),
+        Some(command) => run_command(alloc, command, source, out, disk, shelf),
+    }
+}
+
+/// Writes the line of a refusal with one call, and takes no memory for it.
+pub fn refuse<C: Sink>(refusal: ImageRefusal, notes: &mut C)
+    ensures { IsNoted (notes_of C.Sink notes.old) (notes_of C.Sink notes.new) (line_of (image_text refusal)) }
+{
+    let mut line = Line::new();
+    line.push_str("refused: ");
+    push_image_refusal(&mut line, refusal);
+    line.push_str("\n");
+    let _ = notes.write_all(line.as_str().as_bytes());
 }
 
 /// Does what the words ask for. What it prints goes to `out`; a refusal is one line of `notes` and a
@@ -34,153 +120,35 @@ pub fn run_tool<A: Source, B: Sink, C: Sink, D: Disk, S: Shelf>(
     disk: D,
     shelf: &mut S,
 ) -> (Status, D)
-    ensures usage { (result.0.code ≡ 2) ↔ (command_of words.now ≡ None) }
-    ensures done { result.0.code ≡ 0 → IfSome (command_of words.now) (λ command. Succeeds command
-        (record { left = A.left source.old; source_faults = A.faults source.old; written = B.written out.old; sink_faults = B.faults out.old; files = S.files shelf.old; count = S.count shelf.old; shelf_faults = S.faults shelf.old })
-        (record { left = A.left source.new; source_faults = A.faults source.new; written = B.written out.new; sink_faults = B.faults out.new; files = S.files shelf.new; count = S.count shelf.new; shelf_faults = S.faults shelf.new })
-        (record { tells = D.tells; state = D.state disk; faults = D.faults disk })
-        (record { tells = D.tells; state = D.state result.1; faults = D.faults result.1 })) }
-    ensures quiet { result.0.code ≡ 0 → Keeps (C.written notes.old) (C.written notes.new) }
-    ensures refused { result.0.code ≢ 0 → RunFails (command_of words.now)
-        (record { left = A.left source.old; source_faults = A.faults source.old; written = B.written out.old; sink_faults = B.faults out.old; files = S.files shelf.old; count = S.count shelf.old; shelf_faults = S.faults shelf.old })
-        (record { left = A.left source.new; source_faults = A.faults source.new; written = B.written out.new; sink_faults = B.faults out.new; files = S.files shelf.new; count = S.count shelf.new; shelf_faults = S.faults shelf.new })
-        (record { tells = D.tells; state = D.state disk; faults = D.faults disk })
-        (record { tells = D.tells; state = D.state result.1; faults = D.faults result.1 })
-        (record { written = C.written notes.old; faults = C.faults notes.old })
-        (record { written = C.written notes.new; faults = C.faults notes.new })
-        result.0.code }
-    ensures within { TakesAtMost (A.left source.old) (A.left source.new) (most_taken (command_of words.now)) }
-    ensures complete { IfSome (command_of words.now) (λ command. IfSome (read_by command (A.left source.old) (S.files shelf.old)) (λ files.
-        (bytes : List ℕ) → Prints command files bytes → IsCalm
-        (record { left = A.left source.old; source_faults = A.faults source.old; written = B.written out.old; sink_faults = B.faults out.old; files = S.files shelf.old; count = S.count shelf.old; shelf_faults = S.faults shelf.old })
-        (record { left = A.left source.new; source_faults = A.faults source.new; written = B.written out.new; sink_faults = B.faults out.new; files = S.files shelf.new; count = S.count shelf.new; shelf_faults = S.faults shelf.new })
-        → (result.0.code ≡ 0) ⊎ (result.0.code ≡ 5))) }
-    ensures complete_image { IfSome (command_of words.now) (λ command. IsClear command
-        (record { left = A.left source.old; source_faults = A.faults source.old; written = B.written out.old; sink_faults = B.faults out.old; files = S.files shelf.old; count = S.count shelf.old; shelf_faults = S.faults shelf.old })
-        (record { left = A.left source.new; source_faults = A.faults source.new; written = B.written out.new; sink_faults = B.faults out.new; files = S.files shelf.new; count = S.count shelf.new; shelf_faults = S.faults shelf.new })
-        (record { tells = D.tells; state = D.state disk; faults = D.faults disk })
-        (record { tells = D.tells; state = D.state result.1; faults = D.faults result.1 })
-        → (result.0.code ≡ 0) ⊎ (result.0.code ≡ 5)) }
+    ensures usage { (result.0.code ≡ 2) ↔ (command_of (map string_bytes words.now) ≡ None) }
+    ensures done { result.0.code ≡ 0 → RunSucceeds (command_of (map string_bytes words.now))
+        (moment A.Source B.Sink C.Sink D.Disk S.Shelf source.old out.old notes.old disk shelf.old)
+        (moment A.Source B.Sink C.Sink D.Disk S.Shelf source.new out.new notes.new result.1 shelf.new) }
+    ensures refused { result.0.code ≢ 0 → RunFails (command_of (map string_bytes words.now))
+        (moment A.Source B.Sink C.Sink D.Disk S.Shelf source.old out.old notes.old disk shelf.old)
+        (moment A.Source B.Sink C.Sink D.Disk S.Shelf source.new out.new notes.new result.1 shelf.new) result.0.code }
+    ensures missing { AreMissing (command_of (map string_bytes words.now)) (S.count shelf.old)
+        → (result.0.code ≡ 6) × (shelf.new ≡ shelf.old) }
+    ensures within { TakesAtMost (A.left source.old) (A.left source.new)
+        (most_of (command_of (map string_bytes words.now))) }
+    ensures complete { IsComplete (command_of (map string_bytes words.now))
+        (ports_of A.Source B.Sink S.Shelf source.old out.old shelf.old)
+        (ports_of A.Source B.Sink S.Shelf source.new out.new shelf.new) result.0.code }
+    ensures complete_image { IsImageComplete (command_of (map string_bytes words.now))
+        (moment A.Source B.Sink C.Sink D.Disk S.Shelf source.old out.old notes.old disk shelf.old)
+        (moment A.Source B.Sink C.Sink D.Disk S.Shelf source.new out.new notes.new result.1 shelf.new) result.0.code }
 {
     let (answer, disk) = run_words(alloc, words, source, out, disk, shelf);
     match answer {
         Ok(()) => (Status { code: 0 }, disk),
         Err(refusal) => {
-            let told = refuse(alloc, refusal, notes);
-            (Status { code: told.code() }, disk)
-        }
-    }
-}
-
-/// Runs the command that the words are.
-fn run_words<A: Source, B: Sink, D: Disk, S: Shelf>(
-    alloc: Global,
-    words: &WordList,
-    source: &mut A,
-    out: &mut B,
-    disk: D,
-    shelf: &mut S,
-) -> (Result<(), Refusal>, D)
-    ensures done { OnOk result.0 (IfSome (command_of words.now) (λ command. Succeeds command
-        (record { left = A.left source.old; source_faults = A.faults source.old; written = B.written out.old; sink_faults = B.faults out.old; files = S.files shelf.old; count = S.count shelf.old; shelf_faults = S.faults shelf.old })
-        (record { left = A.left source.new; source_faults = A.faults source.new; written = B.written out.new; sink_faults = B.faults out.new; files = S.files shelf.new; count = S.count shelf.new; shelf_faults = S.faults shelf.new })
-        (record { tells = D.tells; state = D.state disk; faults = D.faults disk })
-        (record { tells = D.tells; state = D.state result.1; faults = D.faults result.1 }))) }
-    ensures some { OnOk result.0 (IsSome (command_of words.now)) }
-    ensures refused { IfErr result.0 (WordsFail (command_of words.now)
-        (record { left = A.left source.old; source_faults = A.faults source.old; written = B.written out.old; sink_faults = B.faults out.old; files = S.files shelf.old; count = S.count shelf.old; shelf_faults = S.faults shelf.old })
-        (record { left = A.left source.new; source_faults = A.faults source.new; written = B.written out.new; sink_faults = B.faults out.new; files = S.files shelf.new; count = S.count shelf.new; shelf_faults = S.faults shelf.new })
-        (record { tells = D.tells; state = D.state disk; faults = D.faults disk })
-        (record { tells = D.tells; state = D.state result.1; faults = D.faults result.1 })) }
-    ensures within { TakesAtMost (A.left source.old) (A.left source.new) (most_taken (command_of words.now)) }
-{
-    match read_words(words) {
-        None => (Err(Refusal::Usage), disk),
-        Some(command) => run_command(alloc, command, source, out, disk, shelf),
-    }
-}
-
-/// Runs a command.
-fn run_command<A: Source, B: Sink, D: Disk, S: Shelf>(
-    alloc: Global,
-    command: Command,
-    source: &mut A,
-    out: &mut B,
-    disk: D,
-    shelf: &mut S,
-) -> (Result<(), Refusal>, D)
-    requires { IsSized command }
-    ensures done { OnOk result.0 (Succeeds command
-        (record { left = A.left source.old; source_faults = A.faults source.old; written = B.written out.old; sink_faults = B.faults out.old; files = S.files shelf.old; count = S.count shelf.old; shelf_faults = S.faults shelf.old })
-        (record { left = A.left source.new; source_faults = A.faults source.new; written = B.written out.new; sink_faults = B.faults out.new; files = S.files shelf.new; count = S.count shelf.new; shelf_faults = S.faults shelf.new })
-        (record { tells = D.tells; state = D.state disk; faults = D.faults disk })
-        (record { tells = D.tells; state = D.state result.1; faults = D.faults result.1 })) }
-    ensures refused { IfErr result.0 (Fails command
-        (record { left = A.left source.old; source_faults = A.faults source.old; written = B.written out.old; sink_faults = B.faults out.old; files = S.files shelf.old; count = S.count shelf.old; shelf_faults = S.faults shelf.old })
-        (record { left = A.left source.new; source_faults = A.faults source.new; written = B.written out.new; sink_faults = B.faults out.new; files = S.files shelf.new; count = S.count shelf.new; shelf_faults = S.faults shelf.new })
-        (record { tells = D.tells; state = D.state disk; faults = D.faults disk })
-        (record { tells = D.tells; state = D.state result.1; faults = D.faults result.1 })) }
-    ensures within { TakesAtMost (A.left source.old) (A.left source.new) (most_taken (Some command)) }
-{
-    match command {
-        Command::Create(asked) => create_image(alloc, asked, shelf, disk, out),
-        Command::Read { at, count } => read_image(alloc, at, count, shelf, disk, out),
-        Command::Write { at } => write_image(alloc, at, source, shelf, disk, out),
-        Command::Zero { at, count } => zero_image(alloc, at, count, shelf, disk, out),
-        Command::Flatten { .. } | Command::Info(_) | Command::Stack => {
-            (run_layers(alloc, command, source, out, shelf), disk)
-        }
-    }
-}
-
-/// Runs a command that makes no image and opens none.
-fn run_layers<A: Source, B: Sink, S: Shelf>(
-    alloc: Global,
-    command: Command,
-    source: &mut A,
-    out: &mut B,
-    shelf: &mut S,
-) -> Result<(), Refusal>
-    requires { IsOverLayers command }
-    ensures done { OnOk result (PrintsAll command
-        (record { left = A.left source.old; source_faults = A.faults source.old; written = B.written out.old; sink_faults = B.faults out.old; files = S.files shelf.old; count = S.count shelf.old; shelf_faults = S.faults shelf.old })
-        (record { left = A.left source.new; source_faults = A.faults source.new; written = B.written out.new; sink_faults = B.faults out.new; files = S.files shelf.new; count = S.count shelf.new; shelf_faults = S.faults shelf.new })) }
-    ensures refused { IfErr result (Cause command
-        (record { left = A.left source.old; source_faults = A.faults source.old; written = B.written out.old; sink_faults = B.faults out.old; files = S.files shelf.old; count = S.count shelf.old; shelf_faults = S.faults shelf.old })
-        (record { left = A.left source.new; source_faults = A.faults source.new; written = B.written out.new; sink_faults = B.faults out.new; files = S.files shelf.new; count = S.count shelf.new; shelf_faults = S.faults shelf.new })) }
-    ensures within { TakesAtMost (A.left source.old) (A.left source.new) (most_taken (Some command)) }
-{
-    match command {
-        Command::Flatten { stdin: true } => flatten_source(alloc, source, out),
-        Command::Flatten { stdin: false } => flatten_shelf(alloc, shelf, out),
-        Command::Info(number) => print_head(alloc, number, shelf, out),
-        Command::Stack => print_stack(alloc, shelf, out),
-        Command::Create(_) | Command::Read { .. } | Command::Write { .. } | Command::Zero { .. } =>
-            { unreachable!() }
-    }
-}
-
-/// Prints the line of a refusal. It answers the refusal that it told, which is want of memory where
-/// the line found none.
-pub fn refuse<C: Sink>(alloc: Global, refusal: Refusal, notes: &mut C) -> Refusal
-    ensures noted { IsNoted
-        (record { written = C.written notes.old; faults = C.faults notes.old })
-        (record { written = C.written notes.new; faults = C.faults notes.new })
-        result }
-    ensures same { (result ≡ refusal) ⊎ ((result ≡ Refusal.Memory) × (refusal ≢ Refusal.Usage)) }
-{
-    if refusal == Refusal::Usage {
-        let _ = notes.write_all(b"refused: usage\n");
-        return Refusal::Usage;
-    }
-    match format!(in alloc; "refused: {refusal}\n") {
-        Ok(line) => {
-            let _ = notes.write_all(line.as_bytes());
-            refusal
-        }
-        Err(_) => {
-            let _ = notes.write_all(b"refused: memory\n");
-            Refusal::Memory
+            refuse(refusal, notes);
+            (
+                Status {
+                    code: refusal.code(),
+                },
+                disk,
+            )
         }
     }
 }

@@ -1,146 +1,15 @@
-//! Reads the words of a command line.
-ghost use Rattle.std.specs.Prelude.{◌≡◌, [], ◌∷◌};
-ghost use Rattle.overlay_tool.specs.Words.{command_of, create_of, number_of, size_of};
+//! The words of the program.
+ghost use Rattle.std.specs.Prelude.{◌≡◌, drop};
 
-use sector_extent::{Bytes, ListOf};
+use tool_setup::WordList;
 
-/// The words behind the name of the program.
-pub type WordList = ListOf<Bytes>;
-
-/// What the words ask for.
-#[derive(Clone, Copy, Debug, PartialEq, Eq)]
-pub enum Command {
-    /// Writes the flat image of the shelf's layers, or of one layer that is read from the source.
-    Flatten { stdin: bool },
-    /// Prints the head of the layer of that number.
-    Info(u64),
-    /// Prints a line for each layer of the stack.
-    Stack,
-    /// Makes an image over the shelf's layers, of so many sectors or of theirs.
-    Create(Option<u64>),
-    /// Writes so many sectors of the image from that one on.
-    Read { at: u64, count: u64 },
-    /// Puts the bytes of the source into the image from that sector on.
-    Write { at: u64 },
-    /// Makes so many sectors of the image zeros from that one on.
-    Zero { at: u64, count: u64 },
-}
-
-/// The greatest number that a word may be.
-const MOST: u64 = 1 << 31;
-
-/// The command that the words are, None where they are none.
-pub fn read_words(words: &WordList) -> Option<Command>
-    ensures { result ≡ command_of words.now }
+/// The words behind the first, which is the name of the program.
+pub fn words_behind(args: Vec<String>) -> WordList
+    ensures { result ≡ drop 1 args.items }
 {
-    match words.as_slice() {
-        [name] => one_word(name.as_slice()),
-        [name, word] => two_words(name.as_slice(), word.as_slice()),
-        [name, first, second] => {
-            three_words(name.as_slice(), first.as_slice(), second.as_slice())
-        }
-        _ => None,
+    let mut words = args;
+    if !words.is_empty() {
+        let _name = words.remove(0);
     }
-}
-
-fn one_word(name: &[u8]) -> Option<Command>
-    ensures { result ≡ command_of (name.now ∷ []) }
-{
-    if name == b"flatten".as_slice() {
-        Some(Command::Flatten { stdin: false })
-    } else if name == b"stack".as_slice() {
-        Some(Command::Stack)
-    } else if name == b"create".as_slice() {
-        Some(Command::Create(None))
-    } else {
-        None
-    }
-}
-
-fn two_words(name: &[u8], word: &[u8]) -> Option<Command>
-    ensures { result ≡ command_of (name.now ∷ word.now ∷ []) }
-{
-    if name == b"flatten".as_slice() {
-        if word == b"--stdin".as_slice() {
-            Some(Command::Flatten { stdin: true })
-        } else {
-            None
-        }
-    } else if name == b"info".as_slice() {
-        match read_number(word) {
-            Some(number) => Some(Command::Info(number)),
-            None => None,
-        }
-    } else if name == b"write".as_slice() {
-        match read_number(word) {
-            Some(at) => Some(Command::Write { at }),
-            None => None,
-        }
-    } else {
-        None
-    }
-}
-
-fn three_words(name: &[u8], first: &[u8], second: &[u8]) -> Option<Command>
-    ensures { result ≡ command_of (name.now ∷ first.now ∷ second.now ∷ []) }
-{
-    if name == b"create".as_slice() {
-        sized_create(first, second)
-    } else if name == b"read".as_slice() {
-        match (read_number(first), read_number(second)) {
-            (Some(at), Some(count)) => Some(Command::Read { at, count }),
-            _ => None,
-        }
-    } else if name == b"zero".as_slice() {
-        match (read_number(first), read_number(second)) {
-            (Some(at), Some(count)) => Some(Command::Zero { at, count }),
-            _ => None,
-        }
-    } else {
-        None
-    }
-}
-
-/// The words behind `create`, of which the first names the option and the second is its value.
-fn sized_create(option: &[u8], value: &[u8]) -> Option<Command>
-    ensures { result ≡ create_of option.now value.now }
-{
-    if option == b"--sectors".as_slice() {
-        match read_size(value) {
-            Some(sectors) => Some(Command::Create(Some(sectors))),
-            None => None,
-        }
-    } else {
-        None
-    }
-}
-
-/// The number that a word spells, where it is one of an image's sectors and so not 0.
-fn read_size(word: &[u8]) -> Option<u64>
-    ensures { result ≡ size_of word.now }
-{
-    match read_number(word) {
-        Some(0) => None,
-        number => number,
-    }
-}
-
-/// The number that 1 to 20 decimal digits spell, where it is at most 2^31.
-fn read_number(word: &[u8]) -> Option<u64>
-    ensures { result ≡ number_of word.now }
-{
-    if word.is_empty() || word.len() > 20 {
-        return None;
-    }
-    let mut number = 0u128;
-    for digit in word {
-        if !digit.is_ascii_digit() {
-            return None;
-        }
-        number = number * 10 + (*digit - b'0') as u128;
-    }
-    if number > MOST as u128 {
-        return None;
-    }
-    Some(number as u64)
+    WordList::from_vec(words)
 }

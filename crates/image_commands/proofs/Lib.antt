@@ -1,0 +1,11 @@
+pub mod WithoutReads
+pub mod ImageAdds
+pub mod CopyLaws
+pub mod ChangeLaws
+pub mod OpenLaws
+pub mod ImageLaws
+pub mod ReadLaws
+pub mod Answered
+pub mod TellLaws
+pub mod MakeLaws
+pub mod ClearLaws

@@ -1,0 +1,212 @@
+-- Making an image over the layers of a shelf.
+use Rattle.std.proofs.Common.{◌≡◌, ℕ, ◌<◌, ◌≤◌, Bool, true, false, IsTrue, List, [], ◌∷◌, length, map, refl, sym, ap, ◌∙◌, subst, arith, All, inl, inr}
+use Rattle.std.specs.Prelude.{Option, Some, None, IfSome, ◌≢◌, slice_get, ◌⊎◌, Result, Ok, Err, OnOk, OnErr, IfErr}
+use Rattle.std.specs.Result.{IsErrOf}
+use Rattle.std.specs.Io.KnownBytes.{Appends, Keeps}
+use Rattle.std.proofs.KnownBytes.{Keeps-refl}
+use Rattle.byte_ports.specs.Ports.{AppendsFront}
+use Rattle.lsmt_header.specs.declared.head.Head.{Head}
+use Rattle.std.proofs.lemmas.List.{length-map}
+use Rattle.std.proofs.lemmas.List.Elements.{All-head, All-map}
+use Rattle.block_disk.specs.DiskState.{DiskState, Leaves}
+use Rattle.block_disk.specs.Claims.{Quiet}
+use Rattle.gate_mark.specs.MarkFile.{mark_of}
+use Rattle.flat_image.specs.declared.base.Base.{Base}
+use Rattle.flat_image.specs.Stacks.{Legal}
+use Rattle.sealed_layer.specs.Layers.{LayerIndex}
+use Rattle.image_core.specs.declared.creating.CreateFault.{CreateFault}
+use Rattle.image_core.specs.declared.creating.CreateFault.TheVariants as create
+use Rattle.image_core.specs.declared.parts.Parts.{Parts}
+use Rattle.image_core.specs.Numbers.{manifest_file}
+use Rattle.image_core.specs.Loading.{AreStackOrNone}
+use Rattle.image_core.specs.Opening.{lowers_from}
+use Rattle.image_core.specs.Creating.{AreLegal, fresh_at}
+use Rattle.tool_setup.specs.declared.words.Command.{Command}
+use Rattle.tool_setup.specs.declared.words.Command.TheVariants.{Create}
+use Rattle.layer_commands.specs.declared.refusal.Refusal.{Refusal}
+use Rattle.layer_commands.specs.declared.refusal.Refusal.TheVariants as refused
+use Rattle.image_core.specs.Seen.{Seen, StandsFor}
+use Rattle.image_commands.specs.ImageReports.{created_line}
+use Rattle.layer_commands.specs.Ports.{Ports}
+use Rattle.layer_commands.specs.Flattening.{AreTold}
+use Rattle.layer_commands.specs.Prints.{sectors_of}
+use Rattle.image_commands.specs.Images.{DiskPort, AreStackedFiles, IsSizeFor, Opens, Does, Began}
+use Rattle.image_commands.specs.ImageCauses.{Untouched, HasSize, FailsToMake, DiskFailed, HaveOtherSize, HaveOwnSize, ImageCause}
+use Rattle.image_commands.specs.ImageSteps.{port_of, IsMade, IsOtherSize, SizeCause, MakeCause, create_refused_as}
+use Rattle.layer_commands.proofs.Pieces.{IfSome-at, IfSome-each, length_told}
+use Rattle.layer_commands.proofs.ToldLayers.{layers_of, told_layers, told_heads}
+use Rattle.layer_commands.proofs.ShelfCommands.{legal_first}
+use Rattle.image_commands.proofs.OpenLaws.{stacked, lies-over}
+use Rattle.image_commands.proofs.WithoutReads.{shows-none}
+use Rattle.image_commands.proofs.ImageAdds.{adds-nothing}
+use Rattle.image_commands.proofs.ImageLaws.{leaves-acts, holds-of}
+
+some-layer : (layers : List LayerIndex) (first : LayerIndex) → slice_get layers 0 ≡ Some first → 1 ≤ length layers
+some-layer [] first is = absurd (let e : None ≡ Some first = is in cc)
+some-layer (layer ∷ above) first is = omega arith
+
+-- layers that form a stack have the size of the lowest one
+pub legal-size : (layers : List LayerIndex) (first : LayerIndex) (n : ℕ) → slice_get layers 0 ≡ Some first → n ≡ first.head.sectors → AreStackOrNone layers → AreLegal n layers
+legal-size layers first n is size legal =
+    let stack : Legal (map (λ (l : LayerIndex). l.head) layers) = legal (some-layer layers first is) in
+    record {
+      few = let few = stack.few in omega (arith, few, length-map layers (λ (l : LayerIndex). l.head));
+      sizes = All-map (λ (head : Head). head.sectors ≡ n) (λ (l : LayerIndex). l.head) layers
+          (subst (λ (m : ℕ). All (λ (l : LayerIndex). l.head.sectors ≡ m) layers) (sym size) (legal_first layers first is stack));
+      legal = legal;
+    }
+
+-- the files have the sectors of the layers
+told-size : (files : List (List ℕ)) (layer : LayerIndex) (above : List LayerIndex) → AreTold files (layer ∷ above) → sectors_of (layers_of files (layer ∷ above)) ≡ layer.head.sectors
+told-size [] layer above told = absurd told
+told-size (file ∷ files) layer above told = refl
+
+other-size : (told : Option (List (List ℕ))) (layers : List LayerIndex) (asked : Option ℕ) → IfSome told (λ files. AreTold files layers) → AreStackOrNone layers → IsOtherSize asked layers
+    → (sectors : ℕ) × (asked ≡ Some sectors) × IfSome told (λ files. HaveOtherSize files sectors)
+other-size told [] asked are legal other = absurd other
+other-size told (layer ∷ above) asked are legal (sectors, is, differs) = (
+  sectors,
+  is,
+  IfSome-each told (λ files e.
+      let layers : List LayerIndex = layer ∷ above in
+      let here : AreTold files layers = IfSome-at told (λ files. AreTold files layers) files e are in (
+        layers_of files layers,
+        told_layers files layers here,
+        subst Legal (sym (told_heads files layers here)) (legal (omega arith)),
+        λ same. differs (sym (told-size files layer above here) ∙ same),
+      )),
+)
+
+-- there is no size
+pub size-refused : (asked : Option ℕ) (told : Option (List (List ℕ))) (count shelf shelf_now : ℕ) (disk : DiskPort) (layers : List LayerIndex) → length layers ≡ count
+    → IfSome told (λ files. AreTold files layers) → AreStackOrNone layers → Quiet disk.state disk.state → (refusal : Refusal) → SizeCause asked layers refusal
+    → MakeCause asked told count shelf shelf_now disk disk refusal
+size-refused asked told count shelf shelf_now disk layers long are legal quiet refused.NoSize cause = (cause.0, sym long ∙ cause.1, quiet)
+size-refused asked told count shelf shelf_now disk layers long are legal quiet refused.OtherSize cause = (other-size told layers asked are legal cause, quiet)
+size-refused asked told count shelf shelf_now disk layers long are legal quiet other cause = absurd cause
+
+own-size : (n : ℕ) (files : List (List ℕ)) (layers : List LayerIndex) → AreTold files layers → AreLegal n layers → HaveOwnSize files n
+own-size n files [] told legal = (layers_of files [], told_layers files [] told, λ some. absurd (omega (arith, some, length_told files [] told)))
+own-size n files (layer ∷ above) told legal = (
+  layers_of files (layer ∷ above),
+  told_layers files (layer ∷ above) told,
+  λ some. told-size files layer above told ∙ All-head (λ (head : Head). head.sectors ≡ n) layer.head (map (λ (l : LayerIndex). l.head) above) legal.sizes,
+)
+
+has-size : (asked : Option ℕ) (told : Option (List (List ℕ))) (count n : ℕ) (layers : List LayerIndex) → IfSome told (λ files. AreTold files layers) → AreLegal n layers → IsSizeFor asked count n
+    → HasSize asked told count
+has-size None told count n layers are legal size = size
+has-size (Some sectors) told count n layers are legal size =
+    IfSome-each told (λ files e. subst (λ (m : ℕ). HaveOwnSize files m) size (own-size n files layers (IfSome-at told (λ files. AreTold files layers) files e are) legal))
+
+-- nothing changed, or there was no mark where the disk tells
+stays : {A : Type 0} (tells : Bool) (mark : Option A) (Q : Type 0) → (IsTrue tells → mark ≢ None → Q) → Q ⊎ (IsTrue tells → mark ≡ None)
+stays false mark Q kept = inr (λ t. cc)
+stays true None Q kept = inr (λ t. refl)
+stays true (Some a) Q kept = inl (kept refl (λ e. cc))
+
+-- a creation was refused
+pub make-refused : (asked : Option ℕ) (told : Option (List (List ℕ))) (count n shelf shelf_now : ℕ) (disk disk_now : DiskPort) (layers : List LayerIndex) → IfSome told (λ files. AreTold files layers)
+    → AreLegal n layers → IsSizeFor asked count n → (fault : CreateFault) → (IsTrue disk.tells → fault ≡ create.Exists → mark_of (disk.state.seen manifest_file) ≢ None)
+    → (fault ≡ create.Failed → disk.faults < disk_now.faults) → (fault ≡ create.Exists → Quiet disk.state disk_now.state) → (fault ≡ create.Memory → Quiet disk.state disk_now.state)
+    → (IsTrue disk.tells → mark_of (disk.state.seen manifest_file) ≢ None → Quiet disk.state disk_now.state) → MakeCause asked told count shelf shelf_now disk disk_now (create_refused_as fault)
+make-refused asked told count n shelf shelf_now disk disk_now layers are legal size create.Exists exists failed untouched unbegun kept =
+    (has-size asked told count n layers are legal size, stacked told layers are legal.legal, λ tells. exists tells refl, untouched refl)
+make-refused asked told count n shelf shelf_now disk disk_now layers are legal size create.Memory exists failed untouched unbegun kept = unbegun refl
+make-refused asked told count n shelf shelf_now disk disk_now layers are legal size create.Failed exists failed untouched unbegun kept =
+    (failed refl, has-size asked told count n layers are legal size, stacked told layers are legal.legal, stays disk.tells (mark_of (disk.state.seen manifest_file)) (Quiet disk.state disk_now.state) kept)
+
+-- and one that was made
+pub made : (asked : Option ℕ) (told : Option (List (List ℕ))) (count n : ℕ) (layers : List LayerIndex) (tells : Bool) (s s' : DiskState) (f f' : ℕ) (p : Parts) → AreStackedFiles told → length layers ≡ count → p.lowers ≡ layers
+    → IsSizeFor asked count n → (IsTrue tells → mark_of (s.seen manifest_file) ≡ None) → StandsFor (record { tells = tells; state = s'; faults = f'; parts = p }) (fresh_at n (lowers_from told layers) f') []
+    → IsMade asked told count (record { tells = tells; state = s; faults = f }) (record { tells = tells; state = s'; faults = f'; parts = p })
+made asked told count n layers tells s s' f f' p are long same size none stands =
+    let base : Base = fresh_at n (lowers_from told layers) f' in (
+      base,
+      lies-over told count layers tells s' f' p base are long same refl stands,
+      record { size = size; none = none; fresh = refl },
+      stands,
+    )
+
+-- ---- the command
+
+abbrev create_with : Option ℕ → Command
+create_with asked = Create asked
+
+keeps : (old new : Option (List ℕ)) → new ≡ old → Keeps old new
+keeps old new same = subst (Keeps old) (sym same) (Keeps-refl old)
+
+untouched : (before now : Ports) (disk disk_now : DiskPort) → now.written ≡ before.written → Quiet disk.state disk_now.state → Untouched before now disk disk_now
+untouched before now disk disk_now same quiet = record { sink = keeps before.written now.written same; same = quiet }
+
+module _ (asked : Option ℕ) (before now : Ports) (disk : DiskPort) (new : Seen) (base : Base) (opens : Opens (Create asked) before disk [] base) (stands : StandsFor new base [])
+    (n : ℕ) (size : n ≡ base.sectors) where
+  line-is : created_line n before.count ≡ created_line base.sectors before.count
+  line-is = ap (λ (m : ℕ). created_line m before.count) size
+
+  pub create-does : (IsTrue new.tells → Leaves new.state new.state.seen) → Appends before.written now.written (created_line n before.count) → Does (Create asked) before now disk (port_of new)
+  create-does stay written = record {
+    bytes = [];
+    base = base;
+    opens = opens;
+    within = omega arith;
+    holds = holds-of (port_of new) base stay (λ files leaves. shows-none base files (leaves-acts new base stands new [] (adds-nothing new) files leaves));
+    prints = record { text = created_line n before.count; is = line-is; written = written };
+  }
+
+  create-began : AppendsFront before.written now.written (created_line n before.count) → Began (Create asked) before now disk (port_of new)
+  create-began front = record {
+    bytes = [];
+    base = base;
+    opens = opens;
+    within = omega arith;
+    history = [];
+    begun = record { front = []; starts = record { rest = []; is = refl }; is = inl refl };
+    crash = leaves-acts new base stands new [] (adds-nothing new);
+    prints = record { text = created_line n before.count; is = line-is; front = front };
+  }
+
+  pub create-done : (r : Result (Unit {0}) Refusal) → (IsTrue new.tells → Leaves new.state new.state.seen) → OnOk r (Appends before.written now.written (created_line n before.count))
+      → OnOk r (Does (Create asked) before now disk (port_of new))
+  create-done (Ok value) stay written = create-does stay written
+  create-done (Err refusal) stay written = tt
+
+  pub create-failed : (r : Result (Unit {0}) Refusal) → IfErr r (λ refusal. refusal ≡ refused.SinkFault) → (IsErrOf r refused.SinkFault → before.sink_faults < now.sink_faults)
+      → OnErr r (AppendsFront before.written now.written (created_line n before.count)) → IfErr r (ImageCause (Create asked) before now disk (port_of new))
+  unfolding create-began
+  create-failed (Ok value) is rose front = tt
+  create-failed (Err refusal) is rose front =
+      subst (λ (x : Refusal). ImageCause (Create asked) before now disk (port_of new) x) (sym is) (rose (ap Err is), record { began = create-began front; all = refl })
+
+disk-failed : (asked : Option ℕ) (before now : Ports) (disk disk_now : DiskPort) → disk.faults < disk_now.faults → HasSize asked before.files before.count → AreStackedFiles before.files
+    → Keeps before.written now.written → Untouched before now disk disk_now ⊎ FailsToMake (Create asked) before now disk ⊎ Began (Create asked) before now disk disk_now
+    → DiskFailed (Create asked) before now disk disk_now
+disk-failed asked before now disk disk_now rose size are keeps stands = record {
+  rose = rose;
+  fed = ([], refl);
+  stacked = are;
+  size = λ other is. subst (λ (o : Option ℕ). HasSize o before.files before.count) (let e : asked ≡ other = cc in e) size;
+  silent = inr keeps;
+  stands = stands;
+}
+
+-- no image was made
+pub make-failed : (asked : Option ℕ) (before now : Ports) (disk disk_now : DiskPort) → now.written ≡ before.written → (refusal : Refusal)
+    → MakeCause asked before.files before.count before.shelf_faults now.shelf_faults disk disk_now refusal → ImageCause (Create asked) before now disk disk_now refusal
+make-failed asked before now disk disk_now same refused.Memory cause = (tt, inl (untouched before now disk disk_now same cause))
+make-failed asked before now disk disk_now same refused.DiskFault (rose, size, are, stands) =
+    let silent : Keeps before.written now.written = keeps before.written now.written same in
+    disk-failed asked before now disk disk_now rose size are silent (elim stands [
+      | inl quiet ↦ inl (untouched before now disk disk_now same quiet)
+      | inr none ↦ inr (inl ((asked, refl), none, silent))
+    ])
+make-failed asked before now disk disk_now same refused.ShelfFault cause = (cause.0, ([], refl), inl (untouched before now disk disk_now same cause.1))
+make-failed asked before now disk disk_now same (refused.Layer number reason) cause = (([], refl), cause.0, untouched before now disk disk_now same cause.1)
+make-failed asked before now disk disk_now same (refused.Stack reason) cause = (([], refl), cause.0, cause.1, cause.2, untouched before now disk disk_now same cause.3)
+make-failed asked before now disk disk_now same refused.NoSize cause =
+    (ap (λ (o : Option ℕ). create_with o) cause.0, cause.1, untouched before now disk disk_now same cause.2)
+make-failed asked before now disk disk_now same refused.OtherSize ((sectors, is, other), quiet) =
+    ((sectors, ap (λ (o : Option ℕ). create_with o) is, other), untouched before now disk disk_now same quiet)
+make-failed asked before now disk disk_now same refused.ImageExists cause =
+    ((asked, refl, cause.0), cause.1, cause.2, untouched before now disk disk_now same cause.3)
+make-failed asked before now disk disk_now same other cause = absurd cause

@@ -1,0 +1,13 @@
+-- The lines that commands on an image print.
+use Rattle.std.specs.Prelude.{ℕ, List, [], ◌∷◌, codes, decimal}
+use Rattle.std.specs.List.{concat}
+
+-- the lines of `create`, `write` and `zero`
+abbrev pub created_line : ℕ → ℕ → List ℕ
+created_line sectors layers = concat (codes "created sectors " ∷ decimal sectors ∷ codes " layers " ∷ decimal layers ∷ codes "\n" ∷ [])
+
+abbrev pub wrote_line : ℕ → ℕ → List ℕ
+wrote_line at count = concat (codes "wrote " ∷ decimal at ∷ codes " " ∷ decimal count ∷ codes "\n" ∷ [])
+
+abbrev pub zeroed_line : ℕ → ℕ → List ℕ
+zeroed_line at count = concat (codes "zeroed " ∷ decimal at ∷ codes " " ∷ decimal count ∷ codes "\n" ∷ [])

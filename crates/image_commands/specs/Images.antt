@@ -1,0 +1,198 @@
+-- What the image commands do to a disk, and what they print.
+use Rattle.std.specs.Prelude.{◌≡◌, ℕ, ◌+◌, ◌*◌, ◌<◌, ◌≤◌, ◌⊎◌, Bool, IsTrue, List, [], ◌∷◌, ◌++◌, length, map, Option, Some, None, IfSome}
+use Rattle.std.specs.Io.KnownBytes.{Appends}
+use Rattle.byte_ports.specs.Ports.{AppendsFront}
+use Rattle.block_disk.specs.DiskState.{DiskState, Files, Leaves}
+use Rattle.gate_mark.specs.MarkFile.{mark_of}
+use Rattle.flat_image.specs.declared.act.Act.{Act}
+use Rattle.flat_image.specs.declared.act.Act.TheVariants as act
+use Rattle.flat_image.specs.declared.act.Asked.TheVariants.{Nothing}
+use Rattle.flat_image.specs.declared.base.Base.{Base}
+use Rattle.flat_image.specs.Entries.{entry, StartsWith}
+use Rattle.flat_image.specs.History.{History, after, reply}
+use Rattle.flat_image.specs.History as history
+use Rattle.flat_image.specs.Sectors.{sector_count}
+use Rattle.flat_image.specs.Stacks.{Legal}
+use Rattle.image_core.specs.Numbers.{manifest_file}
+use Rattle.image_core.specs.Shows.{Shows, IsSound, IsUnworn}
+use Rattle.image_core.specs.Creating.{fresh_at}
+use Rattle.image_core.specs.Standing.{ShowsLeft}
+use Rattle.tool_setup.specs.declared.words.Command.{Command}
+use Rattle.tool_setup.specs.declared.words.Command.TheVariants.{Flatten, Info, Stack, Create, Read, Write, Zero}
+use Rattle.layer_commands.specs.Prints.{LayerSheet, AreLayers, heads_of}
+use Rattle.layer_commands.specs.Ports.{Ports}
+use Rattle.layer_shelf.specs.declared.shelves.Shelf as shelves
+use Rattle.byte_ports.specs.declared.ports.Sink as sinks
+use Rattle.block_disk.specs.declared.disk.Disk as disks
+use Rattle.image_commands.specs.ImageReports.{created_line, wrote_line, zeroed_line}
+
+-- a disk at one moment: whether disks of its type tell, what there is to know of it, and its faults so far
+pub record DiskPort : Type 1 where
+  pub tells : Bool
+  pub state : DiskState
+  pub faults : ℕ
+
+-- the disk, as its type tells of it
+abbrev pub disk_port : {D : Type 0} → disks.Ghosts D → D → DiskPort
+disk_port d disk = record { tells = d.tells; state = d.state disk; faults = d.faults disk }
+
+-- sink and shelf beside a source of which so many bytes are left and so many faults are counted
+abbrev pub beside : {B S : Type 0} → Option (List ℕ) → ℕ → sinks.Ghosts B → shelves.Ghosts S → B → S → Ports
+beside left source_faults b s out shelf = record {
+  left = left;
+  source_faults = source_faults;
+  written = b.written out;
+  sink_faults = b.faults out;
+  files = s.files shelf;
+  count = s.count shelf;
+  shelf_faults = s.faults shelf;
+}
+
+-- what a write takes: whole sectors, 33,554,432 bytes at most
+pub record IsInput (bytes : List ℕ) : Type 0 where
+  pub short : length bytes ≤ 33554432
+  pub whole : length bytes ≡ 512 * sector_count bytes
+
+-- what a command takes of the source: a write all of it, the others nothing
+abbrev pub Takes : Command → Option (List ℕ) → List ℕ → Type 0
+Takes (Write at) left bytes = IfSome left (λ all. bytes ≡ all) × IsInput bytes
+Takes (Flatten stdin) left bytes = bytes ≡ []
+Takes (Info number) left bytes = bytes ≡ []
+Takes Stack left bytes = bytes ≡ []
+Takes (Create asked) left bytes = bytes ≡ []
+Takes (Read at count) left bytes = bytes ≡ []
+Takes (Zero at count) left bytes = bytes ≡ []
+
+-- a change of the image, and the flush that keeps it
+abbrev pub kept_change : Act → List Act
+kept_change change = change ∷ act.Flush ∷ []
+
+-- what a command does to the image, act by act
+abbrev pub acts_of : Command → List ℕ → List Act
+acts_of (Flatten stdin) bytes = []
+acts_of (Info number) bytes = []
+acts_of Stack bytes = []
+acts_of (Create asked) bytes = []
+acts_of (Read at count) bytes = []
+acts_of (Write at) bytes = kept_change (act.Write at bytes)
+acts_of (Zero at count) bytes = kept_change (act.Zero at count)
+
+-- acts as the entries of a history
+abbrev pub entries : List Act → History
+entries acts = map (λ a. entry 0 a) acts
+
+abbrev pub entries_of : Command → List ℕ → History
+entries_of command bytes = entries (acts_of command bytes)
+
+-- the sector behind the last that a command speaks of
+abbrev pub reach_of : Command → List ℕ → ℕ
+reach_of (Flatten stdin) bytes = 0
+reach_of (Info number) bytes = 0
+reach_of Stack bytes = 0
+reach_of (Create asked) bytes = 0
+reach_of (Read at count) bytes = at + count
+reach_of (Write at) bytes = at + sector_count bytes
+reach_of (Zero at count) bytes = at + count
+
+-- the shelf's files, where it tells them, are layers that form a stack, or there are none
+abbrev pub AreStackedFiles : Option (List (List ℕ)) → Type 0
+AreStackedFiles told = IfSome told (λ files. (layers : List LayerSheet) × AreLayers files layers × (1 ≤ length files → Legal (heads_of layers)))
+
+-- the lower layers of the base are the shelf's, whose files they are where the shelf tells them, and form a stack
+pub record LiesOver (told : Option (List (List ℕ))) (count : ℕ) (base : Base) : Type 0 where
+  pub stacked : AreStackedFiles told
+  pub sound : IsSound base
+  pub long : length base.lowers ≡ count
+  pub lowers : IfSome told (λ files. base.lowers ≡ files)
+
+-- a creation makes an image of the size that it was asked for, or else of the layers' size, of which there are some
+abbrev pub IsSizeFor : Option ℕ → ℕ → ℕ → Type 0
+IsSizeFor None count sectors = 1 ≤ count
+IsSizeFor (Some asked) count sectors = sectors ≡ asked
+
+-- a new image, in which nothing was written, on a disk that holds none
+pub record IsNew (asked : Option ℕ) (count : ℕ) (disk : DiskPort) (base : Base) : Type 0 where
+  pub size : IsSizeFor asked count base.sectors
+  pub none : IsTrue disk.tells → mark_of (disk.state.seen manifest_file) ≡ None
+  pub fresh : base ≡ fresh_at base.sectors base.lowers base.faults
+
+-- an image without commits, which the disk's files show where it tells, with no sequence over 2^61
+pub record IsFound (disk : DiskPort) (base : Base) : Type 0 where
+  pub shows : IsTrue disk.tells → Shows disk.state.seen base
+  pub unworn : (told : IsTrue disk.tells) → IsUnworn disk.state.seen base (shows told)
+  pub none_done : base.done ≡ []
+  pub none_frozen : base.frozen ≡ None
+
+-- what a command starts from: a creation from a new image, the others from the one that is found on the disk
+abbrev pub StartsAt : Command → ℕ → DiskPort → Base → Type 0
+StartsAt (Flatten stdin) layers disk base = ⊥
+StartsAt (Info number) layers disk base = ⊥
+StartsAt Stack layers disk base = ⊥
+StartsAt (Create asked) layers disk base = IsNew asked layers disk base
+StartsAt (Read at count) layers disk base = IsFound disk base
+StartsAt (Write at) layers disk base = IsFound disk base
+StartsAt (Zero at count) layers disk base = IsFound disk base
+
+-- the command took these bytes of the source, and opened, or made, the image of that base
+pub record Opens (command : Command) (before : Ports) (disk : DiskPort) (bytes : List ℕ) (base : Base) : Type 0 where
+  pub takes : Takes command before.left bytes
+  pub over : LiesOver before.files before.count base
+  pub starts : StartsAt command before.count disk base
+
+-- what a command prints: one line, or the sectors that it read; what these are is known where disk and shelf tell
+abbrev pub IsPrinted : Command → Ports → DiskPort → List ℕ → Base → List ℕ → Type 0
+IsPrinted (Create asked) before disk bytes base text = text ≡ created_line base.sectors before.count
+IsPrinted (Read at count) before disk bytes base text =
+    (length text ≡ 512 * count) × (IsTrue disk.tells → IfSome before.files (λ files. text ≡ reply base [] at count))
+IsPrinted (Write at) before disk bytes base text = text ≡ wrote_line at (sector_count bytes)
+IsPrinted (Zero at count) before disk bytes base text = text ≡ zeroed_line at count
+IsPrinted (Flatten stdin) before disk bytes base text = ⊥
+IsPrinted (Info number) before disk bytes base text = ⊥
+IsPrinted Stack before disk bytes base text = ⊥
+
+-- what the command prints was written, or a front of it
+pub record Prints (command : Command) (before now : Ports) (disk : DiskPort) (bytes : List ℕ) (base : Base) : Type 0 where
+  pub text : List ℕ
+  pub is : IsPrinted command before disk bytes base text
+  pub written : Appends before.written now.written text
+
+pub record PrintsFront (command : Command) (before now : Ports) (disk : DiskPort) (bytes : List ℕ) (base : Base) : Type 0 where
+  pub text : List ℕ
+  pub is : IsPrinted command before disk bytes base text
+  pub front : AppendsFront before.written now.written text
+
+-- whatever a crash leaves of the disk now shows what it leaves of the history
+abbrev pub LeavesOf : DiskPort → Base → History → Type 0
+LeavesOf disk base history = (files : Files) → Leaves disk.state files → ShowsLeft base history files
+
+-- the disk shows the base as it reads, and so does whatever a crash leaves of it
+pub record Holds (disk : DiskPort) (base : Base) : Type 0 where
+  pub reads : IsTrue disk.tells → Shows disk.state.seen base
+  pub crash : (files : Files) → Leaves disk.state files → Shows files base
+
+-- the command did what it is for: the disk shows what all its acts made of the base, and all that it prints was written
+pub record Does (command : Command) (before now : Ports) (disk disk_now : DiskPort) : Type 0 where
+  pub bytes : List ℕ
+  pub base : Base
+  pub opens : Opens command before disk bytes base
+  pub within : reach_of command bytes ≤ base.sectors
+  pub holds : Holds disk_now (history.now base (entries_of command bytes))
+  pub prints : Prints command before now disk bytes base
+
+-- the history is a beginning of the acts, with a failed step behind it only where the disk's count of faults rose
+pub record IsBegun (acts : History) (before now : ℕ) (history : History) : Type 0 where
+  pub front : History
+  pub starts : StartsWith acts front
+  pub is : (history ≡ front) ⊎ ((before < now) × (history ≡ front ++ entry 0 (act.Fault Nothing) ∷ []))
+
+-- The image was opened, or made, and acts on it were begun: a crash leaves what it leaves of these. A front of what the
+-- command prints was written.
+pub record Began (command : Command) (before now : Ports) (disk disk_now : DiskPort) : Type 0 where
+  pub bytes : List ℕ
+  pub base : Base
+  pub opens : Opens command before disk bytes base
+  pub within : reach_of command bytes ≤ base.sectors
+  pub history : History
+  pub begun : IsBegun (entries_of command bytes) disk.faults disk_now.faults history
+  pub crash : LeavesOf disk_now base history
+  pub prints : PrintsFront command before now disk bytes base

@@ -1,0 +1,10 @@
+pub mod Overlays
+pub mod ToldLayers
+pub mod Pieces
+pub mod Charged
+pub mod Inputs
+pub mod Readings
+pub mod OneLayers
+pub mod ShelfCommands
+pub mod AllPorts
+pub mod Refusals

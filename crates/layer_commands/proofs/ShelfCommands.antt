@@ -1,0 +1,164 @@
+-- What the commands over a shelf have written, and why they are refused.
+use Rattle.std.proofs.Common.{◌≡◌, ℕ, ◌<◌, false, List, [], ◌∷◌, length, map, refl, sym, ap, ◌∙◌, subst, arith, All, inl, inr}
+use Rattle.std.specs.Prelude.{Option, Some, None, ◌⊎◌, IfSome, Result, Ok, Err, IfErr, OnErr, slice_get}
+use Rattle.std.specs.Io.KnownBytes.{Appends}
+use Rattle.std.proofs.KnownBytes.{Consumes-nil, Keeps-refl}
+use Rattle.std.proofs.lemmas.List.{length-map}
+use Rattle.std.proofs.lemmas.List.Elements.{All-head, All-tail, All-cons, All-nil}
+use Rattle.byte_ports.specs.Ports.{AppendsFront}
+use Rattle.layer_shelf.specs.Shelves.{file_at}
+use Rattle.lsmt_header.specs.declared.head.Head.{Head}
+use Rattle.flat_image.specs.LayerFiles.{LayerOf}
+use Rattle.flat_image.specs.Stacks.{Legal}
+use Rattle.sealed_layer.specs.Layers.{LayerIndex}
+use Rattle.sealed_layer.specs.LayerFaults.{IsLayerFault}
+use Rattle.tool_setup.specs.declared.words.Command.{Command}
+use Rattle.tool_setup.specs.declared.words.Command.TheVariants.{Flatten, Info, Stack}
+use Rattle.layer_commands.specs.declared.refusal.Refusal.{Refusal}
+use Rattle.layer_commands.specs.declared.refusal.Refusal.TheVariants as refused
+use Rattle.layer_commands.specs.Reports.{info_lines, stack_lines}
+use Rattle.layer_commands.specs.Causes.{Cause, PrintsAll, PrintsFront}
+use Rattle.layer_commands.specs.Ports.{Ports, TakesAtMost, shelf_ports}
+use Rattle.layer_commands.specs.Flattening.{AreTold, told_flat}
+use Rattle.layer_commands.specs.Reading.{IsFileRefusal, IsStackRefusal}
+use Rattle.layer_commands.proofs.ToldLayers.{layers_of, one_file, told_layers, told_heads, told_image}
+use Rattle.layer_commands.proofs.Pieces.{IfSome-at, IfSome-each}
+
+none_taken : TakesAtMost None None 0
+none_taken = ([], Consumes-nil None, omega arith)
+
+-- the shelf's layers were refused
+pub flatten_refused : (files files' : Option (List (List ℕ))) (count count' before now : ℕ) (old : Option (List ℕ)) (s s' : ℕ) (refusal : Refusal) → IsStackRefusal files count refusal
+    → Cause (Flatten false) (shelf_ports files count before old s) (shelf_ports files' count' now old s') refusal
+flatten_refused files files' count count' before now old s s' refused.Memory cause = (none_taken, inl (Keeps-refl old))
+flatten_refused files files' count count' before now old s s' refused.ShelfFault cause = ((λ reads. reads), inl (Keeps-refl old))
+flatten_refused files files' count count' before now old s s' (refused.Layer number fault) cause = (cause, Keeps-refl old)
+flatten_refused files files' count count' before now old s s' (refused.Stack fault) cause = (tt, cause.0, cause.1, Keeps-refl old)
+flatten_refused files files' count count' before now old s s' other cause = absurd cause
+
+-- the shelf's layers were refused
+pub stack_refused : (files files' : Option (List (List ℕ))) (count count' before now : ℕ) (old : Option (List ℕ)) (s s' : ℕ) (refusal : Refusal) → IsStackRefusal files count refusal
+    → Cause Stack (shelf_ports files count before old s) (shelf_ports files' count' now old s') refusal
+stack_refused files files' count count' before now old s s' refused.Memory cause = (none_taken, inl (Keeps-refl old))
+stack_refused files files' count count' before now old s s' refused.ShelfFault cause = ((λ reads. reads), inl (Keeps-refl old))
+stack_refused files files' count count' before now old s s' (refused.Layer number fault) cause = (cause, Keeps-refl old)
+stack_refused files files' count count' before now old s s' (refused.Stack fault) cause = (tt, cause.0, cause.1, Keeps-refl old)
+stack_refused files files' count count' before now old s s' other cause = absurd cause
+
+-- the one layer was refused
+pub info_refused : (files files' : Option (List (List ℕ))) (k count count' before now : ℕ) (old : Option (List ℕ)) (s s' : ℕ) → IfSome files (λ list. length list ≡ count) → k < count
+    → (refusal : Refusal) → IsFileRefusal files k refusal
+    → Cause (Info k) (shelf_ports files count before old s) (shelf_ports files' count' now old s') refusal
+info_refused files files' k count count' before now old s s' counted within refused.Memory cause = (none_taken, inl (Keeps-refl old))
+info_refused files files' k count count' before now old s s' counted within refused.ShelfFault cause = ((λ reads. reads), inl (Keeps-refl old))
+info_refused files files' k count count' before now old s s' counted within (refused.Layer number fault) (same, bad, real) = (
+  IfSome-each files (λ list e.
+      let whole : length list ≡ count = IfSome-at files (λ list. length list ≡ count) list e counted in
+      let here : IsLayerFault (file_at list k) fault = IfSome-at files (λ list. IsLayerFault (file_at list k) fault) list e bad in
+      (same, omega (arith, whole, same), subst (λ (n : ℕ). IsLayerFault (file_at list n) fault) (sym same) here, real)),
+  Keeps-refl old,
+)
+info_refused files files' k count count' before now old s s' counted within other cause = absurd cause
+
+-- ---- what was written
+
+-- writing a text failed
+pub sink_refused : {T : Type 0} (r : Result T Refusal) (command : Command) (before now : Ports) (old new : Option (List ℕ)) (text : List ℕ) → IfErr r (λ refusal. refusal ≡ refused.SinkFault)
+    → OnErr r (AppendsFront old new text) → (AppendsFront old new text → PrintsFront command before now) → IfErr r (Cause command before now)
+sink_refused (Ok value) command before now old new text is front prints = tt
+sink_refused (Err refusal) command before now old new text is front prints =
+    subst (λ (refusal : Refusal). Cause command before now refusal) (sym is) (prints front)
+
+some_of : (layers : List LayerIndex) → Legal (map (λ layer. layer.head) layers) → 0 < length layers
+some_of layers legal = let some = legal.some in omega (arith, some, length-map layers (λ layer. layer.head))
+
+sizes_of : (m n : ℕ) → n ≡ m → (layers : List LayerIndex) → All (λ head. head.sectors ≡ n) (map (λ layer. layer.head) layers) → All (λ layer. layer.head.sectors ≡ m) layers
+sizes_of m n same [] sizes = All-nil (λ layer. layer.head.sectors ≡ m)
+sizes_of m n same (layer ∷ layers) sizes =
+    let P : Head → Type 0 = λ head. head.sectors ≡ n in
+    All-cons (λ layer. layer.head.sectors ≡ m) layer layers (All-head P layer.head (map (λ layer. layer.head) layers) sizes ∙ same)
+    (sizes_of m n same layers (All-tail P layer.head (map (λ layer. layer.head) layers) sizes))
+
+pub legal_sizes : (first : LayerIndex) (rest : List LayerIndex) → Legal (map (λ layer. layer.head) (first ∷ rest)) → All (λ layer. layer.head.sectors ≡ first.head.sectors) (first ∷ rest)
+legal_sizes first rest legal =
+    let n : ℕ = legal.sizes.0 in
+    let P : Head → Type 0 = λ head. head.sectors ≡ n in
+    let Q : LayerIndex → Type 0 = λ layer. layer.head.sectors ≡ first.head.sectors in
+    let here : first.head.sectors ≡ n = All-head P first.head (map (λ layer. layer.head) rest) legal.sizes.1 in
+    sizes_of first.head.sectors n (sym here) (first ∷ rest) legal.sizes.1
+
+pub legal_first : (layers : List LayerIndex) (first : LayerIndex) → slice_get layers 0 ≡ Some first → Legal (map (λ layer. layer.head) layers)
+    → All (λ layer. layer.head.sectors ≡ first.head.sectors) layers
+legal_first [] first is legal = absurd (let some = legal.some in omega (arith, some))
+legal_first (layer ∷ rest) first is legal =
+    let same : layer ≡ first = cc in
+    subst (λ (one : LayerIndex). All (λ other. other.head.sectors ≡ one.head.sectors) (layer ∷ rest)) same (legal_sizes layer rest legal)
+
+pub flatten_done : (files files' : Option (List (List ℕ))) (layers : List LayerIndex) (n count count' before now : ℕ) (old new : Option (List ℕ)) (s s' : ℕ)
+    → IfSome files (λ list. AreTold list layers) → Legal (map (λ layer. layer.head) layers) → All (λ layer. layer.head.sectors ≡ n) layers
+    → IfSome files (λ list. Appends old new (told_flat n list layers)) → PrintsAll (Flatten false) (shelf_ports files count before old s) (shelf_ports files' count' now new s')
+flatten_done files files' layers n count count' before now old new s s' told legal sizes written =
+    IfSome-each files (λ list e.
+    let are : AreTold list layers = IfSome-at files (λ list. AreTold list layers) list e told in (
+      told_flat n list layers,
+      (layers_of list layers, told_layers list layers are, subst Legal (sym (told_heads list layers are)) legal, sym (told_image n list layers are sizes (some_of layers legal))),
+      IfSome-at files (λ list. Appends old new (told_flat n list layers)) list e written,
+    ))
+
+pub stack_done : (files files' : Option (List (List ℕ))) (layers : List LayerIndex) (count count' before now : ℕ) (old new : Option (List ℕ)) (s s' : ℕ) (text : List ℕ)
+    → IfSome files (λ list. AreTold list layers) → Legal (map (λ layer. layer.head) layers) → text ≡ stack_lines 0 (map (λ layer. layer.head) layers)
+    → Appends old new text → PrintsAll Stack (shelf_ports files count before old s) (shelf_ports files' count' now new s')
+stack_done files files' layers count count' before now old new s s' text told legal is written =
+    IfSome-each files (λ list e.
+    let are : AreTold list layers = IfSome-at files (λ list. AreTold list layers) list e told in
+    let heads = told_heads list layers are in
+    (text, (layers_of list layers, told_layers list layers are, subst Legal (sym heads) legal, is ∙ ap (λ (heads : List Head). stack_lines 0 heads) (sym heads)), written))
+
+pub info_done : (files files' : Option (List (List ℕ))) (layer : LayerIndex) (k count count' before now : ℕ) (old new : Option (List ℕ)) (s s' : ℕ) (text : List ℕ)
+    → IfSome files (λ list. length list ≡ count) → k < count → IfSome files (λ list. LayerOf (file_at list k) layer.head layer.rows) → text ≡ info_lines k layer.head
+    → Appends old new text → PrintsAll (Info k) (shelf_ports files count before old s) (shelf_ports files' count' now new s')
+info_done files files' layer k count count' before now old new s s' text counted within of is written =
+    IfSome-each files (λ list e.
+    let whole : length list ≡ count = IfSome-at files (λ list. length list ≡ count) list e counted in
+    let here : LayerOf (file_at list k) layer.head layer.rows = IfSome-at files (λ list. LayerOf (file_at list k) layer.head layer.rows) list e of in
+    (text, (record { head = layer.head; sheet = _ }, omega (arith, whole), one_file (file_at list k) layer here, is), written))
+
+pub flatten_front : (files files' : Option (List (List ℕ))) (layers : List LayerIndex) (n count count' before now : ℕ) (old new : Option (List ℕ)) (s s' : ℕ)
+    → IfSome files (λ list. AreTold list layers) → Legal (map (λ layer. layer.head) layers) → All (λ layer. layer.head.sectors ≡ n) layers
+    → IfSome files (λ list. AppendsFront old new (told_flat n list layers)) → PrintsFront (Flatten false) (shelf_ports files count before old s) (shelf_ports files' count' now new s')
+flatten_front files files' layers n count count' before now old new s s' told legal sizes written =
+    IfSome-each files (λ list e.
+    let are : AreTold list layers = IfSome-at files (λ list. AreTold list layers) list e told in (
+      told_flat n list layers,
+      (layers_of list layers, told_layers list layers are, subst Legal (sym (told_heads list layers are)) legal, sym (told_image n list layers are sizes (some_of layers legal))),
+      IfSome-at files (λ list. AppendsFront old new (told_flat n list layers)) list e written,
+    ))
+
+pub stack_front : (files files' : Option (List (List ℕ))) (layers : List LayerIndex) (count count' before now : ℕ) (old new : Option (List ℕ)) (s s' : ℕ) (text : List ℕ)
+    → IfSome files (λ list. AreTold list layers) → Legal (map (λ layer. layer.head) layers) → text ≡ stack_lines 0 (map (λ layer. layer.head) layers)
+    → AppendsFront old new text → PrintsFront Stack (shelf_ports files count before old s) (shelf_ports files' count' now new s')
+stack_front files files' layers count count' before now old new s s' text told legal is written =
+    IfSome-each files (λ list e.
+    let are : AreTold list layers = IfSome-at files (λ list. AreTold list layers) list e told in
+    let heads = told_heads list layers are in
+    (text, (layers_of list layers, told_layers list layers are, subst Legal (sym heads) legal, is ∙ ap (λ (heads : List Head). stack_lines 0 heads) (sym heads)), written))
+
+pub info_front : (files files' : Option (List (List ℕ))) (layer : LayerIndex) (k count count' before now : ℕ) (old new : Option (List ℕ)) (s s' : ℕ) (text : List ℕ)
+    → IfSome files (λ list. length list ≡ count) → k < count → IfSome files (λ list. LayerOf (file_at list k) layer.head layer.rows) → text ≡ info_lines k layer.head
+    → AppendsFront old new text → PrintsFront (Info k) (shelf_ports files count before old s) (shelf_ports files' count' now new s')
+info_front files files' layer k count count' before now old new s s' text counted within of is written =
+    IfSome-each files (λ list e.
+    let whole : length list ≡ count = IfSome-at files (λ list. length list ≡ count) list e counted in
+    let here : LayerOf (file_at list k) layer.head layer.rows = IfSome-at files (λ list. LayerOf (file_at list k) layer.head layer.rows) list e of in
+    (text, (record { head = layer.head; sheet = _ }, omega (arith, whole), one_file (file_at list k) layer here, is), written))
+
+pub flat_refused : (files files' : Option (List (List ℕ))) (count count' before now : ℕ) (old new : Option (List ℕ)) (s s' : ℕ) (same : Type 0) (refusal : Refusal)
+    → PrintsFront (Flatten false) (shelf_ports files count before old s) (shelf_ports files' count' now new s')
+    → (refusal ≡ refused.ShelfFault) ⊎ (refusal ≡ refused.SinkFault) ⊎ ((refusal ≡ refused.Memory) × same)
+    → Cause (Flatten false) (shelf_ports files count before old s) (shelf_ports files' count' now new s') refusal
+flat_refused files files' count count' before now old new s s' same refusal front (inl is) =
+    subst (λ (r : Refusal). Cause (Flatten false) (shelf_ports files count before old s) (shelf_ports files' count' now new s') r) (sym is) ((λ reads. reads), inr front)
+flat_refused files files' count count' before now old new s s' same refusal front (inr (inl is)) =
+    subst (λ (r : Refusal). Cause (Flatten false) (shelf_ports files count before old s) (shelf_ports files' count' now new s') r) (sym is) front
+flat_refused files files' count count' before now old new s s' same refusal front (inr (inr is)) =
+    subst (λ (r : Refusal). Cause (Flatten false) (shelf_ports files count before old s) (shelf_ports files' count' now new s') r) (sym is.0) (none_taken, inr front)

@@ -1,0 +1,9 @@
+pub mod Texts
+pub mod Ports
+pub mod Reports
+pub mod Prints
+pub mod Flattening
+pub mod Input
+pub mod Causes
+pub mod Reading
+pub mod OneLayer

@@ -1,0 +1,111 @@
+//! Writes the flat image of layers piece by piece.
+ghost use Rattle.std.specs.Prelude.{◌≡◌, ◌+◌, ◌*◌, ◌^◌, ◌<◌, ◌≤◌, ◌⊎◌, length, OnOk, OnErr, IfErr, IfSome, All, IsErr, IsErrOf};
+ghost use Rattle.std.specs.Option.{ForSome};
+ghost use Rattle.std.specs.Io.KnownBytes.{Appends};
+ghost use Rattle.sector_extent.specs.Causes.{Charges};
+ghost use Rattle.byte_ports.specs.Ports.{AppendsFront};
+ghost use Rattle.layer_shelf.specs.Shelves.{SameFiles};
+ghost use Rattle.layer_commands.specs.Flattening.{AreTold, flat_part, told_flat};
+
+use crate::refusal::Refusal;
+use byte_ports::Sink;
+use layer_shelf::{Shelf, ShelfFailed};
+use sealed_layer::{Layer, paint_part};
+use sector_extent::SECTOR;
+use std::alloc::Global;
+
+// Sectors of a piece, 1 MiB of them.
+const PIECE_SECTORS: u64 = 2048;
+
+// Fills `piece` with `count` sectors of the flat image from `at` on.
+fn paint_piece<S: Shelf>(
+    shelf: &mut S,
+    layers: &[Layer],
+    at: u64,
+    count: u64,
+    piece: &mut [u8],
+) -> Result<(), ShelfFailed>
+    requires files { length layers.now ≡ S.count shelf.old }
+    requires few { length layers.now < 2 ^ 32 }
+    requires size { length piece.old ≡ 512 * count }
+    requires within { All (λ layer. at + count ≤ layer.head.sectors) layers.now }
+    requires told { ForSome (S.files shelf.old) (λ files. AreTold files layers.now) }
+    ensures painted { OnOk result (IfSome (S.files shelf.old) (λ files.
+        piece.new ≡ flat_part files layers.now at count)) }
+    ensures same { SameFiles S.files S.count shelf.old shelf.new }
+    ensures cause { Charges S.faults shelf.old shelf.new (IsErr result) }
+{
+    piece.fill(0);
+    for (k, layer) in layers.iter().enumerate() {
+        paint_part(shelf, k as u32, layer, at, piece)?;
+    }
+    Ok(())
+}
+
+// Writes `count` sectors of the flat image from `at` on, for which `piece` has room.
+fn write_piece<B: Sink, S: Shelf>(
+    shelf: &mut S,
+    layers: &[Layer],
+    at: u64,
+    count: u64,
+    piece: &mut [u8],
+    out: &mut B,
+) -> Result<(), Refusal>
+    requires files { length layers.now ≡ S.count shelf.old }
+    requires few { length layers.now < 2 ^ 32 }
+    requires size { length piece.old ≡ 512 * count }
+    requires within { All (λ layer. at + count ≤ layer.head.sectors) layers.now }
+    requires told { ForSome (S.files shelf.old) (λ files. AreTold files layers.now) }
+    ensures done { OnOk result (IfSome (S.files shelf.old) (λ files.
+        Appends (B.written out.old) (B.written out.new) (flat_part files layers.now at count))) }
+    ensures front { OnErr result (IfSome (S.files shelf.old) (λ files.
+        AppendsFront (B.written out.old) (B.written out.new) (flat_part files layers.now at count))) }
+    ensures only { IfErr result (λ refusal. (refusal ≡ Refusal.ShelfFault) ⊎ (refusal ≡ Refusal.SinkFault)) }
+    ensures same { SameFiles S.files S.count shelf.old shelf.new }
+    ensures shelf_cause { Charges S.faults shelf.old shelf.new (IsErrOf result Refusal.ShelfFault) }
+    ensures sink_cause { Charges B.faults out.old out.new (IsErrOf result Refusal.SinkFault) }
+{
+    match paint_piece(shelf, layers, at, count, piece) {
+        Ok(()) => {}
+        Err(_) => return Err(Refusal::ShelfFault),
+    }
+    match out.write_all(piece) {
+        Ok(()) => Ok(()),
+        Err(_) => Err(Refusal::SinkFault),
+    }
+}
+
+/// Writes the flat image of the layers, the lowest first, which are the files of the shelf and have
+/// so many sectors each. Each piece is painted in one buffer and written with one call.
+pub fn write_flat<B: Sink, S: Shelf>(
+    alloc: Global,
+    shelf: &mut S,
+    layers: &[Layer],
+    sectors: u64,
+    out: &mut B,
+) -> Result<(), Refusal>
+    requires files { length layers.now ≡ S.count shelf.old }
+    requires few { length layers.now < 2 ^ 32 }
+    requires sizes { All (λ layer. layer.head.sectors ≡ sectors) layers.now }
+    requires told { ForSome (S.files shelf.old) (λ files. AreTold files layers.now) }
+    ensures done { OnOk result (IfSome (S.files shelf.old) (λ files.
+        Appends (B.written out.old) (B.written out.new) (told_flat sectors files layers.now))) }
+    ensures front { OnErr result (IfSome (S.files shelf.old) (λ files.
+        AppendsFront (B.written out.old) (B.written out.new) (told_flat sectors files layers.now))) }
+    ensures only { IfErr result (λ refusal. (refusal ≡ Refusal.ShelfFault) ⊎ (refusal ≡ Refusal.SinkFault)
+        ⊎ ((refusal ≡ Refusal.Memory) × (out.new ≡ out.old))) }
+    ensures same { SameFiles S.files S.count shelf.old shelf.new }
+    ensures shelf_cause { Charges S.faults shelf.old shelf.new (IsErrOf result Refusal.ShelfFault) }
+    ensures sink_cause { Charges B.faults out.old out.new (IsErrOf result Refusal.SinkFault) }
+{
+    let room = sectors.min(PIECE_SECTORS) as usize * SECTOR;
+    let mut buffer = vec![in alloc; 0; room]?;
+    let mut at = 0;
+    while at < sectors {
+        let count = (sectors - at).min(PIECE_SECTORS);
+        let size = count as usize * SECTOR;
+        write_piece(shelf, layers, at, count, &mut buffer[..size], out)?;
+        at += count;
+    }
+    Ok(())
+}
