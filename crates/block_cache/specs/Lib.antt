@@ -1,0 +1,4 @@
+pub mod Blocks
+pub mod CacheHistory
+pub mod CacheTurns
+pub mod CacheExamples

@@ -1,0 +1,9 @@
+-- What is left to write grows less.
+use Rattle.std.proofs.Common.{length, ◌-◌, ◌≤◌}
+use Rattle.http_range.proofs.tcp.write_pieces.Given as goal
+
+abbrev pub invariant-loop-at : goal.invariant-loop-at
+invariant-loop-at l = l.at ≤ length l.bytes
+
+abbrev pub decreases-loop-at : goal.decreases-loop-at
+decreases-loop-at l = length l.bytes - l.at

@@ -1,0 +1,6 @@
+-- The byte was not found yet.
+use Rattle.std.proofs.Common.{◌≡◌, ℕ, ◌<◌, get_or}
+use Rattle.http_range.proofs.values.cut_at.Given as goal
+
+abbrev pub invariant-loop-at : goal.invariant-loop-at
+invariant-loop-at l = (k : ℕ) → k < l.at → get_or l.bytes k 0 ≡ l.byte → ⊥
