@@ -9,7 +9,7 @@ use std::io::{self, Read, Write};
 use std::net::{Net, Shutdown, TcpListener, TcpStream};
 use std::test::Fail;
 use std::thread;
-use std::thread::Threads;
+use std::time::Duration;
 
 // A client's stream, and the two ends of the connection that it made.
 fn connected<R: Net<Listener = TcpListener, Stream = TcpStream>>(
@@ -142,14 +142,29 @@ fn a_client_that_goes_is_a_fault(rt: HostRuntime) -> Result<(), Fail> {
         "of a request cut off"
     );
     let large = vec![in rt.alloc(); 3; 1 << 20]?;
-    assert!(rt;
-        fails_for_good(&mut sink, &large),
-        "a client that reads nothing"
-    );
+    assert!(rt; fails_for_good(&mut sink, &large), "in a reply");
     assert!(rt;
         source.read(&mut request).is_err(),
         "a read sends nothing more"
     );
+    assert!(rt; finish(source, sink).is_err(), "the end");
+    Ok(())
+}
+
+#[test]
+fn a_client_that_reads_nothing_is_waited_for(rt: HostRuntime) -> Result<(), Fail> {
+    let listener = TcpListener::bind(&rt, "127.0.0.1:0")?;
+    let (client, source, mut sink) = connected(&rt, rt.alloc(), &listener)?;
+    let large = vec![in rt.alloc(); 3; 1 << 20]?;
+    let (_, failed) = thread::join(
+        &rt,
+        move || {
+            thread::sleep(&rt, Duration::from_millis(200));
+            drop(client)
+        },
+        || fails_for_good(&mut sink, &large),
+    );
+    assert!(rt; failed, "once it goes");
     assert!(rt; finish(source, sink).is_err(), "the end");
     Ok(())
 }
