@@ -129,7 +129,8 @@ fn an_image_in_a_folder_is_opened_again(rt: HostRuntime) -> Result<(), Fail> {
     let disk = FolderDisk::new(rt, folder);
     let made = b"created sectors 8 layers 0\n";
     let disk = expect(&rt, alloc, disk, &["create", "--sectors", "8"], 0, made)?;
-    let _closed = expect(&rt, alloc, disk, &["write", "3"], 0, b"wrote 3 2\n")?;
+    let closed = expect(&rt, alloc, disk, &["write", "3"], 0, b"wrote 3 2\n")?;
+    drop(closed);
     let folder = PathText::from_vec(FOLDER.as_bytes().to_vec(alloc)?);
     let disk = FolderDisk::new(rt, folder);
     let _disk = expect(&rt, alloc, disk, &["read", "4", "1"], 0, &[0x41; 512])?;
