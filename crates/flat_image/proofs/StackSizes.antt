@@ -1,6 +1,7 @@
 -- The sectors of layers over one another: in a stack they do not fall, and a sealed layer may stand over the one below.
-use Rattle.std.proofs.Common.{◌≡◌, ℕ, ◌≤◌, Bool, true, false, cond, List, [], ◌∷◌, ◌++◌, length, map, refl, subst, sym, inl, inr, arith}
+use Rattle.std.proofs.Common.{◌≡◌, ℕ, zero, suc, ◌≤◌, Bool, true, false, cond, List, [], ◌∷◌, ◌++◌, length, map, get_or, refl, subst, sym, ap, inl, inr, arith}
 use Rattle.std.proofs.lemmas.Bool.Decides.{nat_tests}
+use Rattle.std.proofs.lemmas.Grind.{get_or_head}
 use Rattle.std.specs.Prelude.{nat_lt, IfSome}
 use Rattle.lsmt_header.specs.declared.head.Head.{Head}
 use Rattle.flat_image.specs.declared.base.Base.{Base}
@@ -26,6 +27,14 @@ pub rising-push : (low n : ℕ) (files : List (List ℕ)) (file : List ℕ) → 
     → AreRising low n (map size_in (files ++ file ∷ []))
 rising-push low n [] file is rising = (omega (arith, is, rising), omega (arith, is))
 rising-push low n (other ∷ files) file is rising = (rising.0, rising-push (size_in other) n files file is rising.1)
+
+-- the uppermost stands at the last place
+pub uppermost-at : {A B : Type 0} (field : A → B) (none : B) (xs : List A) (i : ℕ) (d : A) → suc i ≡ length xs
+    → uppermost none (map field xs) ≡ field (get_or xs i d)
+uppermost-at field none [] i d last = absurd (omega (arith, last))
+uppermost-at field none (x ∷ []) i d last = sym (ap field (get_or_head x [] i d (omega (arith, last))))
+uppermost-at field none (x ∷ next ∷ xs) zero d last = absurd (omega (arith, last))
+uppermost-at field none (x ∷ next ∷ xs) (suc i) d last = uppermost-at field (field x) (next ∷ xs) i d (omega (arith, last))
 
 -- the uppermost of them is at most n
 pub rising-uppermost : (low n : ℕ) (sizes : List ℕ) → AreRising low n sizes → uppermost low sizes ≤ n
