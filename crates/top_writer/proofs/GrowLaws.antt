@@ -149,3 +149,27 @@ pub fits_grown : (tells : Bool) (now : DiskState) (n sectors : ℕ) (asked : Hea
 fits_grown tells now n sectors asked p q s may more grown fits =
     subst (λ (v : TopView). ViewFits tells now sectors (asked_of false asked.parent) v (with_grow sectors s) (map (with_grow sectors) may)) (sym grown)
     (view_grown tells now n sectors asked (view_of p) s may (omega (arith, fits.holds.sectors, more)) fits)
+
+-- files that show a top whose heads say just the sectors of the image show it too where they may say fewer
+pub shows_weaker : (n : ℕ) (exact exact' : Bool) (parent : Option (List ℕ)) (s : Stand) (t : Stored) → (IsTrue exact' → IsTrue exact)
+    → ShowsTop n (asked_of exact parent) s t → ShowsTop n (asked_of exact' parent) s t
+shows_weaker n exact exact' parent s t may shows = record {
+  sequence = shows.sequence;
+  body = shows.body;
+  rows = shows.rows;
+  heads = record {
+    bytes_head = shows.heads.bytes_head;
+    index_head = shows.heads.index_head;
+    bytes_size = record { within = shows.heads.bytes_size.within; same = λ is. shows.heads.bytes_size.same (may is) };
+    index_size = record { within = shows.heads.index_size.within; same = λ is. shows.heads.index_size.same (may is) };
+    parent_is = shows.heads.parent_is;
+  };
+  mark = shows.mark;
+  counts = shows.counts;
+  index_long = shows.index_long;
+  bytes_long = shows.bytes_long;
+  number = shows.number;
+  spelled = shows.spelled;
+  sound = shows.sound;
+  cells = shows.cells;
+}

@@ -29,9 +29,9 @@ fn is_parent(asked: Option<[u8; 16]>, parent: &[u8; 16]) -> bool
     }
 }
 
-// So many sectors, as a head says them, are those of the image, or where they need not be just those, no
-// more.
-fn is_size(exact: bool, sectors: u64, said: u64) -> bool
+/// So many sectors, as a head says them, are those of the image, or where they need not be just those, no
+/// more.
+pub fn is_size(exact: bool, sectors: u64, said: u64) -> bool
     ensures { IsTrue result ↔ IsSizeFor exact sectors said }
 {
     if exact {
