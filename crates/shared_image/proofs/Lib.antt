@@ -1,0 +1,4 @@
+pub mod Turning
+pub mod Holding
+pub mod Charged
+pub mod Same
