@@ -1,10 +1,8 @@
 -- A seat's count of faults rises just where a call of it failed.
-use Rattle.std.proofs.Common.{◌≡◌, ℕ, cond, ◌+◌, ◌<◌, ◌≤◌, Bool, IsTrue, true, false, List, [], ◌∷◌, ◌++◌, map, Result, Ok, Err, MatchResult, IsErrOf, refl, sym, ap, ◌∙◌, subst, arith}
-use Rattle.sector_extent.specs.Causes.{Charges}
+use Rattle.std.proofs.Common.{◌≡◌, ℕ, cond, ◌+◌, ◌<◌, Bool, false, List, [], ◌∷◌, ◌++◌, map, Result, Ok, Err, MatchResult, IsErrOf, refl, ap, ◌∙◌, arith}
 use Rattle.sector_extent.specs.declared.extent.Extent.{Extent}
 use Rattle.flat_image.specs.declared.act.Act.{Act}
-use Rattle.flat_image.specs.declared.act.Act.TheVariants.{Read, Flush, Fault}
-use Rattle.flat_image.specs.declared.act.Asked.TheVariants.{Nothing}
+use Rattle.flat_image.specs.declared.act.Act.TheVariants.{Read, Flush}
 use Rattle.flat_image.specs.declared.base.Base.{Base}
 use Rattle.flat_image.specs.declared.port_fault.PortFault.{PortFault}
 use Rattle.flat_image.specs.declared.port_fault.PortFault.TheVariants.{Worn, Full, Memory, Failed}
@@ -66,7 +64,7 @@ module _ (tells : Bool) (lock : Lock Base) (shelf : ℕ) (old new : Place Act) w
   flush-charges (Ok x) h = stays (Ok x) (same_by Flush refl h.notes) (λ e. cc e)
   flush-charges (Err Worn) h = stays (Err Worn) (same_none h.1) (λ e. cc e)
   flush-charges (Err (Full rows sectors)) h = absurd h
-  flush-charges (Err Memory) h = stays (Err Memory) (same_none h.2) (λ e. cc e)
+  flush-charges (Err Memory) h = stays (Err Memory) (same_none h.2) (λ e. cc)
   flush-charges (Err Failed) h = rises (Err Failed) h.0 refl
 
   pub plan-charges : {T : Type 0} (r : Result T PortFault) (told : Bool) (e : Extent) (bytes out : List ℕ) (gaps : List Extent) (view : T → SnapshotView)

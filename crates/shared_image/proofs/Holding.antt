@@ -1,8 +1,6 @@
 -- What the steps of an image say of a turn.
-use Rattle.std.proofs.Common.{◌≡◌, ◌↔◌, ℕ, ◌+◌, ◌*◌, ◌/◌, ◌^◌, ◌<◌, ◌≤◌, ◌⊎◌, inl, inr, Bool, true, false, List, length, Result, Ok, Err, refl, sym, ap, ◌∙◌, subst, arith}
-use Rattle.std.proofs.lemmas.Bool.Decides.{nat_tests}
+use Rattle.std.proofs.Common.{◌≡◌, ℕ, ◌+◌, ◌*◌, ◌^◌, ◌<◌, ◌≤◌, inl, inr, List, length, sym, subst, arith}
 use Rattle.sector_extent.specs.Rows.{rows_for}
-use Rattle.flat_image.specs.declared.act.Act.{Act}
 use Rattle.flat_image.specs.declared.act.Act.TheVariants.{Write, Zero}
 use Rattle.flat_image.specs.Sectors.{sector_count}
 use Rattle.flat_image.specs.Ports.{HasRoomFor, IsOverFor}

@@ -2,3 +2,4 @@ pub mod Turning
 pub mod Holding
 pub mod Charged
 pub mod Same
+pub mod Kept

@@ -1,12 +1,12 @@
 -- What a turn makes of a seat, seen as a port.
-use Rattle.std.proofs.Common.{◌≡◌, ℕ, suc, ◌+◌, ◌^◌, ◌<◌, ◌≤◌, ◌⊎◌, inl, inr, Bool, IsTrue, true, false, List, [], ◌∷◌, ◌++◌, length, map, Result, Ok, Err, refl, sym, ap, ◌∙◌, subst, arith, nat_lt, append_assoc, append-nil, length-append, leb, nat_le, Decides, IsErrOf, MatchResult}
+use Rattle.std.proofs.Common.{◌≡◌, ℕ, ◌+◌, ◌^◌, ◌<◌, ◌≤◌, Bool, IsTrue, false, List, [], ◌∷◌, ◌++◌, length, refl, sym, ap, ◌∙◌, subst, arith, append_assoc, length-append}
 use Rattle.flat_image.specs.declared.act.Act.{Act}
 use Rattle.flat_image.specs.declared.act.Act.TheVariants.{Read, Fault, Flush}
 use Rattle.flat_image.specs.declared.act.Asked.TheVariants.{Nothing}
 use Rattle.flat_image.specs.declared.base.Base.{Base}
 use Rattle.flat_image.specs.declared.stands.Entry.{Entry}
-use Rattle.flat_image.specs.Entries.{entry, calls_by, StartsWith}
-use Rattle.flat_image.specs.History.{History, now, fault_count, is_fault, used_rows, used_sectors, rows_taken, sectors_taken, HasRoom, IsOver}
+use Rattle.flat_image.specs.Entries.{entry, calls_by}
+use Rattle.flat_image.specs.History.{History, now, fault_count, used_rows, used_sectors}
 use Rattle.flat_image.specs.Ports.{PortState, IsWorn, Notes, NotesLast, HasRoomFor, IsOverFor, ChangeFails, Flushes}
 use Rattle.flat_image.specs.declared.port_fault.PortFault.TheVariants.{Full, Memory, Failed}
 use Rattle.sector_extent.specs.declared.extent.Extent.{Extent}
@@ -20,7 +20,7 @@ use Rattle.flat_image.proofs.Entries.{calls_by-append, calls_by-own}
 use Rattle.flat_image.proofs.HistoryLaws.{fault_count-append}
 use Rattle.turn_lock.specs.Locks.{Lock, Place, place, IsLater}
 use Rattle.atomic_table.specs.Seated.{TableId}
-use Rattle.shared_image.specs.Turns.{home_of, seat_port, Plans, PlanFails, Tells, TellFails}
+use Rattle.shared_image.specs.Turns.{home_of, seat_port, Plans, PlanFails, Tells}
 
 none : {A : Type 0} (xs : List A) → length xs ≡ 0 → xs ≡ []
 none [] e = refl
@@ -70,7 +70,7 @@ module _ (tells : Bool) (lock : Lock Base) (shelf : ℕ) (old mid : Place Act) (
   noted new act is room =
       let grown : mid.seen ++ entry mid.number act ∷ [] ≡ old.seen ++ (later.seen.rest ++ entry old.number act ∷ []) =
       ap (λ (k : ℕ). mid.seen ++ entry k act ∷ []) later.number ∙ (ap (λ (l : History). l ++ entry old.number act ∷ []) later.seen.is
-          ∙ append_assoc old.seen later.seen.rest (entry old.number act ∷ [])) in
+      ∙ append_assoc old.seen later.seen.rest (entry old.number act ∷ [])) in
       let own : calls_by mid.number (mid.seen ++ entry mid.number act ∷ []) ≡ calls_by old.number old.seen ++ entry mid.number act ∷ [] =
       calls_by-own mid.number mid.seen act ∙ ap (λ (l : History). l ++ entry mid.number act ∷ []) own_same in
       let faults = ap (λ (l : History). fault_count l) own ∙ fault_count-append (calls_by old.number old.seen) (entry mid.number act ∷ []) in
@@ -86,7 +86,7 @@ module _ (tells : Bool) (lock : Lock Base) (shelf : ℕ) (old mid : Place Act) (
       → new.seen ≡ (old.seen ++ later.seen.rest) ++ entry old.number act ∷ []
   seen_last new act is =
       ap (λ (s : Place Act). s.seen) is ∙ (ap (λ (k : ℕ). mid.seen ++ entry k act ∷ []) later.number
-          ∙ ap (λ (l : History). l ++ entry old.number act ∷ []) later.seen.is)
+      ∙ ap (λ (l : History). l ++ entry old.number act ∷ []) later.seen.is)
 
   -- a failed step counts
   pub rose : (new : Place Act) → new ≡ place mid.lock mid.number (mid.seen ++ entry mid.number (Fault Nothing) ∷ []) false → (P old).faults < (P new).faults
@@ -156,9 +156,13 @@ module _ (tells : Bool) (lock : Lock Base) (shelf : ℕ) (old mid : Place Act) (
   -- a change that there was no room for
   pub full_turn : (new : Place Act) (act : Act) (rows filled : ℕ) → new ≡ place mid.lock mid.number mid.seen false → lock.first + length mid.seen < 2 ^ 62
       → IsOverFor lock.base mid.seen act → rows ≡ used_rows lock.base mid.seen → filled ≡ used_sectors lock.base mid.seen → ChangeFails (P old) (P new) act (Full rows filled)
-  full_turn new act rows filled is room over r f =
-      (unworn new is room, subst (λ (s : Place Act). IsOverFor lock.base s.seen act) (sym is) over, gave new is (omega (arith, room)),
-      r ∙ ap (λ (s : Place Act). used_rows lock.base s.seen) (sym is), f ∙ ap (λ (s : Place Act). used_sectors lock.base s.seen) (sym is))
+  full_turn new act rows filled is room over r f = (
+    unworn new is room,
+    subst (λ (s : Place Act). IsOverFor lock.base s.seen act) (sym is) over,
+    gave new is (omega (arith, room)),
+    r ∙ ap (λ (s : Place Act). used_rows lock.base s.seen) (sym is),
+    f ∙ ap (λ (s : Place Act). used_sectors lock.base s.seen) (sym is),
+  )
 
   -- a change without memory
   pub memory_turn : (new : Place Act) (act : Act) → new ≡ place mid.lock mid.number mid.seen false → lock.first + length mid.seen < 2 ^ 62

@@ -1,8 +1,10 @@
 -- What stands of a shared image when it is closed.
-use Rattle.std.specs.Prelude.{◌≡◌, ℕ, List, IsTrue}
+use Rattle.std.specs.Prelude.{List, IsTrue}
 use Rattle.flat_image.specs.declared.act.Act.{Act}
 use Rattle.flat_image.specs.declared.base.Base.{Base}
+use Rattle.flat_image.specs.Entries.{StartsWith}
 use Rattle.flat_image.specs.History.{History}
+use Rattle.flat_image.specs.Left.{Kept}
 use Rattle.turn_lock.specs.Locks.{Lock, Place, IsHistory}
 use Rattle.image_core.specs.Laws.{TellSame, ReadSame}
 use Rattle.image_core.specs.Parts.{parts_view}
@@ -19,3 +21,8 @@ pub record IsClosed (lock : Lock Base) (seats : List (Place Act)) (image : Seen)
   pub history : History
   pub stands : StandsFor image lock.base history
   pub is : IsHistory seats history
+
+-- All of what was seen is kept from then on: what a crash leaves of a history that begins with it is made of a front that
+-- does so too.
+abbrev pub AreKept : History → Type 0
+AreKept seen = (history front : History) → StartsWith history seen → Kept history front → StartsWith front seen

@@ -1,7 +1,10 @@
+ghost use Rattle.std.specs.Prelude.{ℕ, [], ◌∷◌, ◌++◌};
 ghost use Rattle.flat_image.specs.declared.base.Base.{Base};
+ghost use Rattle.flat_image.specs.declared.act.Act.TheVariants.{Flush};
+ghost use Rattle.flat_image.specs.Entries.{entry};
 ghost use Rattle.flat_image.specs.History.{History};
 ghost use Rattle.image_core.specs.Seen.{seen, StandsFor};
-ghost use Rattle.shared_image.specs.Closed.{AreSame};
+ghost use Rattle.shared_image.specs.Closed.{AreSame, AreKept};
 
 use block_disk::Disk;
 use image_core::Image;
@@ -15,3 +18,8 @@ pub fn one_thread_law<D: Disk, E: Disk>(closed: &Image<D>, run: &Image<E>)
     closed.standing_law();
     run.standing_law();
 }
+
+/// Where a flush stands in a history, whoever's it is, all before it is kept.
+pub fn acknowledged_law()
+    ensures { (before : History) (number : ℕ) → AreKept (before ++ entry number Flush ∷ []) }
+{}

@@ -5,8 +5,8 @@
 mod laws;
 mod shared;
 
-pub use laws::one_thread_law;
+pub use laws::{acknowledged_law, one_thread_law};
 pub use shared::{ImageSeat, SharedImage};
 
-
-
+#[cfg(test)]
+mod tests;

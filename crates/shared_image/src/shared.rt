@@ -1,12 +1,12 @@
 //! The image behind the lock.
-ghost use Rattle.std.specs.Prelude.{◌≡◌, ℕ, ◌+◌, ◌*◌, ◌^◌, ◌<◌, ◌≤◌, List, [], length, false, All, Ok, IfOk, IfErr, IsErr, MatchResult, IsErrOf};
+ghost use Rattle.std.specs.Prelude.{◌≡◌, ℕ, ◌+◌, ◌*◌, ◌^◌, ◌<◌, ◌≤◌, List, [], length, false, All, Ok, IfOk, IfErr, IsErr, OnOk, MatchResult, IsErrOf};
 ghost use Rattle.std.specs.Arc.{arc_value};
 ghost use Rattle.flat_image.specs.declared.act.Act.TheVariants as act;
 ghost use Rattle.flat_image.specs.Entries.{StartsWith};
 ghost use Rattle.flat_image.specs.Ports.{IsWorn, ChargesPort, Makes, ChangeFails, Flushes, FlushFails};
 ghost use Rattle.turn_lock.specs.Locks.{IsLater, AreSeats};
 ghost use Rattle.image_core.specs.Seen.{seen, StandsFor};
-ghost use Rattle.shared_image.specs.Closed.{IsClosed};
+ghost use Rattle.shared_image.specs.Closed.{AreKept, IsClosed};
 ghost use Rattle.shared_image.specs.Turns.{AsPort, IsIdleSeat, IsSameSeat, Plans, PlanFails, Tells, TellFails};
 
 use block_disk::{Disk, DiskFailed};
@@ -298,6 +298,7 @@ impl<D: Disk> SharedImage<D> {
         ensures same { IsSameSeat seat.old seat.new }
         ensures flush { AsPort self.now seat.old seat.new (λ old new. MatchResult result
             (λ _. Flushes old new) (FlushFails false old new)) }
+        ensures kept { OnOk result (AreKept seat.new.seen) }
         ensures cause { AsPort self.now seat.old seat.new (λ old new. ChargesPort old new result) }
         ensures worn { AsPort self.now seat.old seat.new (λ old _. IsWorn old → IsErrOf result PortFault.Worn) }
     {
@@ -318,11 +319,7 @@ impl<D: Disk> SharedImage<D> {
     }
 
     /// What the image says of itself, and the number of the entry that comes next. It notes nothing.
-    pub fn status<R: Wait>(
-        &self,
-        rt: &R,
-        seat: &mut ImageSeat<D>,
-    ) -> Result<(Status, u64), Worn>
+    pub fn status<R: Wait>(&self, rt: &R, seat: &mut ImageSeat<D>) -> Result<(Status, u64), Worn>
         requires seat { IsIdleSeat self.now seat.old }
         ensures same { IsSameSeat seat.old seat.new }
         ensures status { AsPort self.now seat.old seat.new (λ old new. MatchResult result

@@ -1,6 +1,7 @@
 use Rattle.std.proofs.Common.{Ok}
 use Rattle.shared_image.proofs.Turning.{worn_turn, flushed_last, fault_turn}
 use Rattle.shared_image.proofs.Charged.{flush-charges}
+use Rattle.shared_image.proofs.Kept.{kept-after}
 use Rattle.shared_image.proofs.shared.SharedImage.flush.Goals as goal
 
 pub returns-in-Err-clause-flush : goal.returns-in-Err-clause-flush
@@ -18,3 +19,7 @@ returns-in-Err-flush-clause-flush g c tells shelf =
 pub returns-in-Ok-flush-clause-cause : goal.returns-in-Ok-flush-clause-cause
 returns-in-Ok-flush-clause-cause g c tells shelf =
     flush-charges tells c.args.self.now shelf c.args.seat.now c.note.new.seat (Ok tt) (returns-in-Ok-flush-clause-flush g c tells shelf)
+
+pub returns-in-Ok-flush-clause-kept : goal.returns-in-Ok-flush-clause-kept
+returns-in-Ok-flush-clause-kept g c =
+    kept-after c.hold.new.seat c.note.new.seat c.note.ensures

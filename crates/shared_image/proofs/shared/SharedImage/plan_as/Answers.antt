@@ -1,6 +1,4 @@
-use Rattle.std.proofs.Common.{◌≡◌, ◌≤◌, ◌+◌, ◌∙◌, sym, arith}
 use Rattle.std.specs.Arc.{arc_value}
-use Rattle.image_core.specs.Seen.{seen}
 use Rattle.shared_image.proofs.Holding.{within_size}
 use Rattle.shared_image.proofs.Turning.{worn_turn, planless_turn, fault_turn, planned_turn}
 use Rattle.shared_image.proofs.shared.SharedImage.plan_as.Goals as goal

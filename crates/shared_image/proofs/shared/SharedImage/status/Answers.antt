@@ -1,4 +1,4 @@
-use Rattle.std.proofs.Common.{◌≡◌, ◌+◌, ap, sym, ◌∙◌}
+use Rattle.std.proofs.Common.{◌+◌, ap, ◌∙◌}
 use Rattle.shared_image.proofs.Turning.{worn_turn, told_turn}
 use Rattle.shared_image.proofs.shared.SharedImage.status.Goals as goal
 

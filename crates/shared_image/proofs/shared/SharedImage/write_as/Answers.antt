@@ -1,4 +1,4 @@
-use Rattle.std.proofs.Common.{◌≡◌, ◌≤◌, ◌+◌, ◌∙◌, sym, ap, arith}
+use Rattle.std.proofs.Common.{◌∙◌, ap}
 use Rattle.std.specs.Prelude.{Err}
 use Rattle.top_writer.specs.declared.fault.WriteFault.TheVariants.{Full}
 use Rattle.shared_image.proofs.Turning.{worn_turn, noted_last, full_turn, memory_turn, failed_turn}
