@@ -94,6 +94,12 @@ StopsReading n filled index count Memory = ⊤
 StopsReading n filled index count Failed = ⊤
 StopsReading n filled index count (NoTop reason) = Stops n filled index 4096 0 count reason
 
+-- why putting the rows of a piece, of which the first has that number, stopped; of want of memory nothing is said
+abbrev pub StopsPutting : ℕ → ℕ → List ℕ → ℕ → ℕ → TopFault → Type 0
+StopsPutting n filled piece number count Memory = ⊤
+StopsPutting n filled piece number count Failed = ⊥
+StopsPutting n filled piece number count (NoTop reason) = Stops n filled piece 0 number count reason
+
 -- so many rows of the index are in the table
 pub record AreLoaded (tells : Bool) (n filled : ℕ) (index : List ℕ) (count : ℕ) (segments : List Segment) : Type 0 where
   pub rows : List Row
