@@ -26,4 +26,6 @@ pub use target::{HostText, PathText, Target};
 pub use tcp::TcpLink;
 
 #[cfg(test)]
+mod reply_tests;
+#[cfg(test)]
 mod tests;
