@@ -8,6 +8,7 @@ mod fetcher;
 mod fields;
 mod heads;
 mod in_memory;
+mod laws;
 mod links;
 mod reason;
 mod receiving;
@@ -19,6 +20,7 @@ mod values;
 
 pub use fetcher::Fetcher;
 pub use in_memory::MemLink;
+pub use laws::range_reply_law;
 pub use links::{Link, LinkFailed};
 pub use reason::{FetchFault, ReplyReason};
 pub use request::ask_bytes;

@@ -232,6 +232,8 @@ fn read_some(stream: &mut TcpStream, out: &mut [u8]) -> Result<usize, LinkFailed
 impl<R: Net<Stream = TcpStream>> Link for TcpLink<R> {
     ghost state = { λ s. record { faults = s.faults.count; dials = None; blobs = None } };
 
+    ghost serves = { λ _. tt };
+
     fn send(&mut self, bytes: &[u8]) -> Result<(), LinkFailed> {
         match self.gather(bytes) {
             Ok(()) => Ok(()),
