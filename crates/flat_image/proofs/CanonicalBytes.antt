@@ -1,8 +1,8 @@
 -- The canonical file of a sheet is that of a layer with the sheet.
-use Rattle.std.proofs.Common.{◌≡◌, ◌≢◌, ℕ, suc, ◌+◌, ◌-◌, ◌*◌, ◌%◌, ◌^◌, ◌≤◌, List, [], ◌∷◌, ◌++◌, length, map, take, drop, refl, sym, ap, ◌∙◌, subst, arith, append_assoc, length-append}
+use Rattle.std.proofs.Common.{◌≡◌, ◌≢◌, ℕ, suc, ◌+◌, ◌-◌, ◌*◌, ◌%◌, ◌^◌, ◌≤◌, List, [], ◌∷◌, ◌++◌, length, map, take, drop, Bool, true, false, cond, inl, inr, refl, sym, ap, ◌∙◌, subst, arith, append_assoc, length-append}
 use Rattle.std.specs.List.{concat, flat_map}
 use Rattle.std.specs.Int.{w32, w64, to_le_bytes}
-use Rattle.std.specs.Prelude.{All, slice_set}
+use Rattle.std.specs.Prelude.{All, nat_lt, slice_set}
 use Rattle.std.proofs.lemmas.List.{take_at, drop_at, length-replicate}
 use Rattle.std.proofs.lemmas.List.Elements.{All-nil, All-head, All-tail}
 use Rattle.std.proofs.lemmas.Str.{IsUtf8-nil}
@@ -10,7 +10,7 @@ use Rattle.seg_mapping.specs.declared.Row.{Row}
 use Rattle.seg_mapping.specs.Rows.{spelling, RowOf}
 use Rattle.lsmt_header.specs.declared.head.Head.{Head}
 use Rattle.lsmt_header.specs.declared.head.Kind.TheVariants.{SealedHead, SealedEnd}
-use Rattle.lsmt_header.specs.Blocks.{RawHead, IsSized, raw_block, raw_of, BlockOf, Fits, IsValid}
+use Rattle.lsmt_header.specs.Blocks.{RawHead, IsSized, raw_block, raw_of, BlockOf, Fits, IsVersion, IsValid}
 use Rattle.lsmt_header.proofs.BlockLemmas.{raw_of-sized, end_block}
 use Rattle.flat_image.specs.Sheets.{Cell, IsSector, IsSheet}
 use Rattle.flat_image.specs.RowCells.{AreLayerRows, AreSpelled}
@@ -153,10 +153,15 @@ module _ (head : Head) (bytes : List ℕ) (rows : List Row) where
         sound = sound;
       }
 
+-- its version is 1 or 2
+version_is : (taller : Bool) → IsVersion SealedHead (cond taller 2 1)
+version_is true = inr (tt, refl)
+version_is false = inl refl
+
 -- the canonical file of a sheet
-pub file-is_layer : (n : ℕ) (uuid parent : List ℕ) (sheet : List Cell) → FileIsLayer n uuid parent sheet
-file-is_layer n uuid parent sheet can =
-    let head : Head = canonical_head uuid parent sheet in
+pub file-is_layer : (n : ℕ) (uuid parent : List ℕ) (below : ℕ) (sheet : List Cell) → FileIsLayer n uuid parent below sheet
+file-is_layer n uuid parent below sheet can =
+    let head : Head = canonical_head uuid parent below sheet in
     let sectors : List (List ℕ) = sectors_of sheet in
     let bytes : List ℕ = concat sectors in
     let rows : List Row = canonical_rows sheet in
@@ -168,7 +173,7 @@ file-is_layer n uuid parent sheet can =
     are-rows (length sheet) (canonical_index_at sheet) 0 8 sheet (flat_map parts_of (stretches 0 sheet)) parts (short-parts (stretches 0 sheet))
     (omega arith) (omega (arith, is.few, is.count)) (omega arith) (omega arith) (omega arith) in
     let spelled : All IsRow rows = spelled-rows (length sheet) (canonical_index_at sheet) 0 8 (flat_map parts_of (stretches 0 sheet)) sound in
-    let valid : IsValid head = record { version = refl; size = (omega (arith, is.some, is.count), omega (arith, is.few, is.count)); named = λ sealed. can.named } in
+    let valid : IsValid head = record { version = version_is (nat_lt below (length sheet)); size = (omega (arith, is.some, is.count), omega (arith, is.few, is.count)); named = λ sealed. can.named } in
     let filled : length sectors ≤ length sheet = length-sectors_of sheet in
     let fits : Fits head = record {
       index_at = omega (arith, filled, is.few, is.count);
@@ -178,11 +183,11 @@ file-is_layer n uuid parent sheet can =
       tag = record { short = omega arith; utf8 = IsUtf8-nil; no_zero = All-nil (λ byte. byte ≢ 0) };
     } in
     let front : List ℕ = raw_block (raw_of head) in
-    let has : HasSectors (file_of uuid parent sheet) 8 sectors =
+    let has : HasSectors (file_of uuid parent below sheet) 8 sectors =
     subst (λ (file : List ℕ). HasSectors file 8 sectors) (sym (file-front head bytes rows))
     (has-concat front (concat (map spelling rows) ++ (padding head bytes rows ++ end head bytes rows)) 8 sectors (length-front head bytes rows refl valid fits) whole) in
     record {
       rows = rows;
       layer = layer-file head bytes rows refl valid fits (omega (arith, size)) refl (omega arith) can.few spelled sound;
-      sheet_is = sym (cells-rows (file_of uuid parent sheet) (length sheet) (canonical_index_at sheet) 0 8 sheet (flat_map parts_of (stretches 0 sheet)) parts sound has);
+      sheet_is = sym (cells-rows (file_of uuid parent below sheet) (length sheet) (canonical_index_at sheet) 0 8 sheet (flat_map parts_of (stretches 0 sheet)) parts sound has);
     }

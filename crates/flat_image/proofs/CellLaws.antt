@@ -43,6 +43,14 @@ hole_behind file n index_at low (row ∷ rows) p are above =
     let off : covers row p ≡ false = covers-behind row p (omega (arith, end)) in
     rw off (hole_behind file n index_at (row.offset + row.count) rows p are.1 above)
 
+-- past its sectors a layer has holes
+pub hole_past : (file : List ℕ) (n index_at low : ℕ) (rows : List Row) (p : ℕ) → AreLayerRows n index_at low rows → n ≤ p → cell_of file rows p ≡ Hole
+hole_past file n index_at low [] p are past = refl
+hole_past file n index_at low (row ∷ rows) p are past =
+    let range = are.0.range in
+    let off : covers row p ≡ false = covers-behind row p (omega (arith, range, past)) in
+    rw off (hole_past file n index_at (row.offset + row.count) rows p are.1 past)
+
 -- rows in two parts
 pub rows_split : (n index_at low : ℕ) (xs ys : List Row) → AreLayerRows n index_at low (xs ++ ys) → AreLayerRows n index_at low xs × AreLayerRows n index_at (end_of low xs) ys
 rows_split n index_at low [] ys are = (tt, are)

@@ -4,21 +4,20 @@ use Rattle.std.proofs.lemmas.List.{map-append}
 use Rattle.std.proofs.lemmas.List.Elements.{All-head, All-tail}
 use Rattle.std.specs.Prelude.{Option, None}
 use Rattle.flat_image.specs.declared.act.Act.{Act}
-use Rattle.flat_image.specs.declared.act.Act.TheVariants.{Read, Write, Zero, Flush, Freeze, Seal, Fault}
+use Rattle.flat_image.specs.declared.act.Act.TheVariants.{Read, Write, Zero, Flush, Freeze, Seal, Grow, Fault}
 use Rattle.flat_image.specs.declared.base.Base.{Base}
 use Rattle.flat_image.specs.declared.stands.Entry.{Entry}
 use Rattle.flat_image.specs.Sheets.{Cell, flat}
 use Rattle.flat_image.specs.Frozen.{Frozen}
-use Rattle.flat_image.specs.CanonicalFiles.{file_of}
 use Rattle.flat_image.specs.LayerReading.{sheet_in}
-use Rattle.flat_image.specs.Base.{top_uuid, sheet_list}
+use Rattle.flat_image.specs.Base.{sheet_list}
 use Rattle.flat_image.specs.Entries.{entry}
 use Rattle.flat_image.specs.History.{History, now, step, sealed_over, Proper}
 use Rattle.flat_image.specs.Left.{moves_layers}
 use Rattle.flat_image.specs.CommitLaws.{LeavesLayers, CommitIsImage, OpenCommitIsImage}
-use Rattle.flat_image.proofs.HistoryLaws.{now-append, now-entry, now-sectors, now-lowers, proper-front, proper-rest, base-stays, after-is_image, base-step}
+use Rattle.flat_image.proofs.HistoryLaws.{now-append, now-entry, now-lowers, proper-front, proper-rest, base-stays, after-is_image, base-step}
 use Rattle.flat_image.proofs.LayerLaws.{sheet_in-IsLayer}
-use Rattle.flat_image.proofs.SealedSheets.{seals-layer, few-step}
+use Rattle.flat_image.proofs.SealedSheets.{sealed_file, seals-layer, few-step}
 
 -- what does not move the layers keeps them, and what is frozen
 abbrev MovesNone : Entry Act → Type 0
@@ -31,6 +30,7 @@ step_stays b (Zero at count) is = (refl, refl)
 step_stays b Flush is = (refl, refl)
 step_stays b (Freeze uuid) is = absurd (cc)
 step_stays b (Seal uuid) is = absurd (cc)
+step_stays b (Grow sectors) is = (refl, refl)
 step_stays b (Fault asked) is = (refl, refl)
 
 pub now-stays : (b : Base) (h : History) → LeavesLayers h → ((now b h).done ≡ b.done) × ((now b h).frozen ≡ b.frozen)
@@ -52,7 +52,7 @@ open-commit base f sealer uuid between frozen is few proper leaves =
     let b : Base = now base between in
     let stays = now-stays base between leaves in
     let good = base-stays base between is few (proper-front base between (entry sealer (Seal uuid) ∷ []) proper) in
-    let file : List ℕ = file_of f.uuid (top_uuid (b.lowers ++ b.done)) f.sheet in
+    let file : List ℕ = sealed_file b f in
     let sheet : sheet_in file ≡ f.sheet = sheet_in-IsLayer b.sectors f.uuid f.sheet file (seals-layer b good.0 good.1 f (stays.1 ∙ frozen)) in
     let done : (now base h).done ≡ b.done ++ file ∷ [] =
     ap (λ (v : Base). v.done) (now-entry base between sealer (Seal uuid))
@@ -75,8 +75,7 @@ commit-image base front freezer sealer uuid between is few proper leaves =
     let none : b.frozen ≡ None = behind.1.free in
     let along : now base h ≡ now c rest = now-append base front (entry freezer (Freeze uuid) ∷ rest) in
     let lowers : base.lowers ≡ b.lowers = sym (now-lowers base front) in
-    let sectors : base.sectors ≡ b.sectors = sym (now-sectors base front) in
-    (λ i. flat (sectors i) (map sheet_in (lowers i ++ (along i).done)))
+    (λ i. flat b.sectors (map sheet_in (lowers i ++ (along i).done)))
     ∙ (open_image
     ∙ (ap (λ (o : Option Frozen). flat b.sectors (map sheet_in (b.lowers ++ b.done) ++ (sheet_list o ++ b.top ∷ []))) (sym none)
     ∙ after-is_image base front is few before))

@@ -1,5 +1,5 @@
 -- Laws of a history: one entry longer, in two parts, since the last Freeze, and the image that it makes.
-use Rattle.std.proofs.Common.{◌≡◌, ◌⊎◌, ◌||◌, ℕ, zero, suc, ◌+◌, ◌≤◌, Bool, true, false, cond, List, [], ◌∷◌, ◌++◌, length, map, take, drop, refl, sym, ap, ◌∙◌, subst, inl, inr, arith, append_assoc, length-take, add_assoc, add-zero}
+use Rattle.std.proofs.Common.{◌≡◌, ◌⊎◌, ◌||◌, ℕ, zero, suc, ◌+◌, ◌-◌, ◌≤◌, Bool, true, false, cond, List, [], ◌∷◌, ◌++◌, length, map, take, drop, refl, sym, ap, ◌∙◌, subst, inl, inr, arith, append_assoc, append-nil, length-append, length-take, add_assoc, add-zero}
 use Rattle.std.proofs.Math.ListN.{replicate}
 use Rattle.std.proofs.lemmas.List.{length-map, length-replicate, map-append, take-append-drop}
 use Rattle.std.proofs.Math.Seq.{take-append_seam}
@@ -7,23 +7,25 @@ use Rattle.std.proofs.lemmas.List.Sums.{fold-append, sum_by-append, sum_by-cons}
 use Rattle.std.proofs.lemmas.List.Elements.{All-nil, All-cons, All-head, All-tail, All-append, All-map, All-take, All-drop, All-replicate, All-weaker}
 use Rattle.std.specs.Prelude.{fold, All, Option, Some, None, IfSome}
 use Rattle.flat_image.specs.declared.act.Act.{Act}
-use Rattle.flat_image.specs.declared.act.Act.TheVariants.{Read, Write, Zero, Flush, Freeze, Seal, Fault}
+use Rattle.flat_image.specs.declared.act.Act.TheVariants.{Read, Write, Zero, Flush, Freeze, Seal, Grow, Fault}
 use Rattle.flat_image.specs.declared.base.Base.{Base}
 use Rattle.flat_image.specs.declared.stands.Entry.{Entry}
-use Rattle.flat_image.specs.Sheets.{Cell, Filled, Hole, IsCell, IsSheet, IsImage, zero_sector, paint, flat}
+use Rattle.flat_image.specs.Sheets.{Cell, Filled, Hole, IsCell, IsSheet, IsImage, zero_sector, paint, lengthened, flat}
 use Rattle.flat_image.specs.Sheets as sheets
 use Rattle.flat_image.specs.Sectors.{sectors_in, put_at}
 use Rattle.flat_image.specs.Frozen.{Frozen}
 use Rattle.flat_image.specs.CanonicalFiles.{file_of}
-use Rattle.flat_image.specs.LayerReading.{sheet_in}
-use Rattle.flat_image.specs.Base.{holes, top_uuid, pending_of, sheet_list, sheets_of, image_of, IsLayerFile, IsFrozen, IsBase}
+use Rattle.flat_image.specs.Stacks.{AreRising}
+use Rattle.flat_image.specs.LayerReading.{sheet_in, size_in}
+use Rattle.flat_image.specs.Base.{holes, with_holes, top_uuid, top_size, pending_of, sheet_list, sheets_of, image_of, IsLayerFile, IsFrozen, IsBase}
 use Rattle.flat_image.specs.Entries.{entry, StartsWith}
 use Rattle.flat_image.specs.History.{History, step, now, after, changed, written, rows_taken, sectors_taken, sealed_over, committed, frozen, used_rows, used_sectors, keeps, kept_from, kept, Proper, Allowed, HasRoom, is_fault, fault_count}
 use Rattle.flat_image.specs.Left.{Kept, moves_layers}
-use Rattle.flat_image.specs.HistoryLaws.{freezes, has_freeze, since_freeze, TopIsSinceFreeze, UsedIsSum, FreezeTakesTop, FrozenStays, SealAddsFile, KeptIsPlace, KeptReaches, BaseStays, AfterIsImage, BaseIsImage}
-use Rattle.flat_image.proofs.Painting.{FitsIn, paint-holes, paint-filled, paint-zeros, paint-put_at, length-paint, length-put_at, length-painted, length-flat, length-sectors_in, whole-sectors_in, AreSectors-flat}
-use Rattle.flat_image.proofs.LayerLaws.{sheet_in-IsLayer, IsSheet-IsLayer}
-use Rattle.flat_image.proofs.SealedSheets.{SealsLayer, seals-layer, few-step}
+use Rattle.flat_image.specs.HistoryLaws.{freezes, has_freeze, since_freeze, grown, last_size, SizeIsLast, SizeRises, TopIsSinceFreeze, UsedIsSum, FreezeTakesTop, FrozenStays, SealAddsFile, KeptIsPlace, KeptReaches, BaseStays, AfterIsImage, BaseIsImage}
+use Rattle.flat_image.proofs.Painting.{FitsIn, AreCells, flat-over, flat-lengthened, paint-append, paint-holes, paint-filled, paint-zeros, paint-put_at, length-paint, length-put_at, length-flat, length-sectors_in, whole-sectors_in, AreSectors-flat}
+use Rattle.flat_image.proofs.LayerLaws.{sheet_in-layer, size_in-layer, IsSheet-layer, sheet_in-IsLayer, size_in-IsLayer}
+use Rattle.flat_image.proofs.StackSizes.{rising-low, rising-more, rising-push}
+use Rattle.flat_image.proofs.SealedSheets.{sealed_file, SealsLayer, seals-layer, few-step}
 
 -- a history in two parts, and one entry longer
 pub now-append : (b : Base) (h more : History) → now b (h ++ more) ≡ now (now b h) more
@@ -40,18 +42,61 @@ pub after-entry : (b : Base) (h : History) (number : ℕ) (act : Act) → after 
 after-entry b h number act = after-append b h (entry number act ∷ [])
 
 -- what stays along every history
-pub step-sectors : (b : Base) (act : Act) → (step b act).sectors ≡ b.sectors
+pub step-sectors : (b : Base) (act : Act) → (step b act).sectors ≡ grown b.sectors act
 step-sectors b (Read at count) = refl
 step-sectors b (Write at bytes) = refl
 step-sectors b (Zero at count) = refl
 step-sectors b Flush = refl
 step-sectors b (Freeze uuid) = refl
 step-sectors b (Seal uuid) = refl
+step-sectors b (Grow sectors) = refl
 step-sectors b (Fault asked) = refl
 
-pub now-sectors : (b : Base) (h : History) → (now b h).sectors ≡ b.sectors
-now-sectors b [] = refl
-now-sectors b (e ∷ h) = now-sectors (step b e.act) h ∙ step-sectors b e.act
+pub size-last : (b : Base) (h : History) → SizeIsLast b h
+size-last b [] = refl
+size-last b (e ∷ h) = size-last (step b e.act) h ∙ ap (λ (n : ℕ). last_size n h) (step-sectors b e.act)
+
+-- an image never gets smaller
+step-rises : (b : Base) (act : Act) → Allowed b act → b.sectors ≤ (step b act).sectors
+step-rises b (Read at count) may = omega arith
+step-rises b (Write at bytes) may = omega arith
+step-rises b (Zero at count) may = omega arith
+step-rises b Flush may = omega arith
+step-rises b (Freeze uuid) may = omega arith
+step-rises b (Seal uuid) may = omega arith
+step-rises b (Grow sectors) may = omega (arith, may.more)
+step-rises b (Fault asked) may = omega arith
+
+pub size-rises : (b : Base) (h : History) → SizeRises b h
+size-rises b [] p = omega arith
+size-rises b (e ∷ h) p = omega (arith, step-rises b e.act p.1, size-rises (step b e.act) h p.2)
+
+-- an act that is no Grow, and one that does not keep, leaves the size
+abbrev pub LeavesSize : Entry Act → Type 0
+LeavesSize e = (n : ℕ) → grown n e.act ≡ n
+
+unkept-size : (act : Act) → keeps act ≡ false → (n : ℕ) → grown n act ≡ n
+unkept-size (Read at count) is n = refl
+unkept-size (Write at bytes) is n = refl
+unkept-size (Zero at count) is n = refl
+unkept-size Flush is n = refl
+unkept-size (Freeze uuid) is n = refl
+unkept-size (Seal uuid) is n = refl
+unkept-size (Grow sectors) is n = absurd (cc)
+unkept-size (Fault asked) is n = refl
+
+pub now-sectors : (b : Base) (h : History) → All LeavesSize h → (now b h).sectors ≡ b.sectors
+now-sectors b [] leave = refl
+now-sectors b (e ∷ h) leave =
+    now-sectors (step b e.act) h (All-tail LeavesSize e h leave)
+    ∙ (step-sectors b e.act ∙ All-head LeavesSize e h leave b.sectors)
+
+-- a beginning that has all that is kept has the size of the whole
+pub kept-size : (b : Base) (h front : History) → Kept h front → (now b front).sectors ≡ (now b h).sectors
+kept-size b h front kept =
+    sym (ap (λ (l : History). (now b l).sectors) kept.splits
+    ∙ (ap (λ (v : Base). v.sectors) (now-append b front kept.rest)
+    ∙ now-sectors (now b front) kept.rest (All-weaker (λ (e : Entry Act). keeps e.act ≡ false) LeavesSize (λ e. unkept-size e.act) kept.rest kept.unkept)))
 
 pub step-lowers : (b : Base) (act : Act) → (step b act).lowers ≡ b.lowers
 step-lowers b (Read at count) = refl
@@ -60,6 +105,7 @@ step-lowers b (Zero at count) = refl
 step-lowers b Flush = refl
 step-lowers b (Freeze uuid) = refl
 step-lowers b (Seal uuid) = refl
+step-lowers b (Grow sectors) = refl
 step-lowers b (Fault asked) = refl
 
 pub now-lowers : (b : Base) (h : History) → (now b h).lowers ≡ b.lowers
@@ -73,6 +119,7 @@ step-faults b (Zero at count) = refl
 step-faults b Flush = refl
 step-faults b (Freeze uuid) = refl
 step-faults b (Seal uuid) = refl
+step-faults b (Grow sectors) = refl
 step-faults b (Fault asked) = refl
 
 pub now-faults : (b : Base) (h : History) → (now b h).faults ≡ b.faults
@@ -123,6 +170,7 @@ step_top-freezing b (Zero at count) is = absurd (cc)
 step_top-freezing b Flush is = absurd (cc)
 step_top-freezing b (Freeze uuid) is = refl
 step_top-freezing b (Seal uuid) is = absurd (cc)
+step_top-freezing b (Grow sectors) is = absurd (cc)
 step_top-freezing b (Fault asked) is = absurd (cc)
 
 step_top : (b : Base) (act : Act) → freezes act ≡ false → (step b act).top ≡ written b.top act
@@ -132,6 +180,7 @@ step_top b (Zero at count) is = refl
 step_top b Flush is = refl
 step_top b (Freeze uuid) is = absurd (cc)
 step_top b (Seal uuid) is = refl
+step_top b (Grow sectors) is = refl
 step_top b (Fault asked) is = refl
 
 abbrev written_along : List Cell → History → List Cell
@@ -155,6 +204,7 @@ step_rows b (Zero at count) is = (refl, sym (add-zero b.filled))
 step_rows b Flush is = (sym (add-zero b.rows), sym (add-zero b.filled))
 step_rows b (Freeze uuid) is = absurd (cc)
 step_rows b (Seal uuid) is = (sym (add-zero b.rows), sym (add-zero b.filled))
+step_rows b (Grow sectors) is = (sym (add-zero b.rows), sym (add-zero b.filled))
 step_rows b (Fault asked) is = (sym (add-zero b.rows), sym (add-zero b.filled))
 
 step_rows-freezing : (b : Base) (act : Act) → freezes act ≡ true → ((step b act).rows ≡ 0) × ((step b act).filled ≡ 0)
@@ -164,6 +214,7 @@ step_rows-freezing b (Zero at count) is = absurd (cc)
 step_rows-freezing b Flush is = absurd (cc)
 step_rows-freezing b (Freeze uuid) is = (refl, refl)
 step_rows-freezing b (Seal uuid) is = absurd (cc)
+step_rows-freezing b (Grow sectors) is = absurd (cc)
 step_rows-freezing b (Fault asked) is = absurd (cc)
 
 pub used-sum : (b : Base) (h : History) → UsedIsSum b h
@@ -205,7 +256,7 @@ seal-adds_file b h = record {
         found.1,
         ap (λ (v : Base). v.done) (now-entry b h number (Seal uuid))
             ∙ (ap (λ f. (now b h).done ++ sealed_over ((now b h).lowers ++ (now b h).done) f) found.1
-            ∙ ap (λ l. (now b h).done ++ file_of uuid (top_uuid (l ++ (now b h).done)) found.0 ∷ []) (now-lowers b h)),
+            ∙ ap (λ l. (now b h).done ++ file_of uuid (top_uuid (l ++ (now b h).done)) (top_size (length found.0) (l ++ (now b h).done)) found.0 ∷ []) (now-lowers b h)),
       );
   other = λ number act. other_by number act;
 }
@@ -220,6 +271,7 @@ seal-adds_file b h = record {
     other_by number Flush = inl (others number Flush refl)
     other_by number (Freeze uuid) = inl (others number (Freeze uuid) refl)
     other_by number (Seal uuid) = inr (uuid, refl)
+    other_by number (Grow sectors) = inl (others number (Grow sectors) refl)
     other_by number (Fault asked) = inl (others number (Fault asked) refl)
 
 pub frozen-stays : (b : Base) (h : History) → FrozenStays b h
@@ -235,6 +287,7 @@ frozen-stays b h = record {
     stays Flush is = refl
     stays (Freeze uuid) is = absurd (cc)
     stays (Seal uuid) is = absurd (cc)
+    stays (Grow sectors) is = refl
     stays (Fault asked) is = refl
 
 -- the place of what is kept
@@ -345,38 +398,74 @@ kept-is_place h = record {
     reaches (x ∷ front) e rest keeping = more (kept (front ++ e ∷ rest)) (keeps x.act) (length front) (reaches front e rest keeping)
 
 -- the sheets of layers, and of a frozen sheet
-layer_sheets : (n : ℕ) (files : List (List ℕ)) → All (IsLayerFile n) files → All (IsSheet n) (map sheet_in files)
-layer_sheets n [] layers = All-nil (IsSheet n)
-layer_sheets n (file ∷ files) layers =
-    let here : IsLayerFile n file = All-head (IsLayerFile n) file files layers in
-    All-cons (IsSheet n) (sheet_in file) (map sheet_in files)
-    (subst (IsSheet n) (sym (sheet_in-IsLayer n here.0 here.1 file here.2)) (IsSheet-IsLayer n here.0 here.1 file here.2))
-    (layer_sheets n files (All-tail (IsLayerFile n) file files layers))
+pub layer_fits : (low n : ℕ) (files : List (List ℕ)) → All IsLayerFile files → AreRising low n (map size_in files) → All (FitsIn n) (map sheet_in files)
+layer_fits low n [] layers rising = All-nil (FitsIn n)
+layer_fits low n (file ∷ files) layers rising =
+    let here : IsLayerFile file = All-head IsLayerFile file files layers in
+    let sheet : List Cell = here.1.sheet in
+    let size : length sheet ≡ size_in file = (IsSheet-layer file here.0 sheet here.1.layer).count ∙ sym (size_in-layer file here.0 sheet here.1.layer) in
+    let fits : length sheet ≤ n = omega (arith, size, rising-low (size_in file) n (map size_in files) rising.1) in
+    All-cons (FitsIn n) (sheet_in file) (map sheet_in files) (subst (FitsIn n) (sym (sheet_in-layer file here.0 sheet here.1.layer)) fits)
+    (layer_fits (size_in file) n files (All-tail IsLayerFile file files layers) rising.1)
 
-frozen_sheets : (n : ℕ) (frozen : Option Frozen) → IfSome frozen (IsFrozen n) → All (IsSheet n) (sheet_list frozen)
-frozen_sheets n None is = All-nil (IsSheet n)
-frozen_sheets n (Some f) is = All-cons (IsSheet n) f.sheet [] is.sheet_is (All-nil (IsSheet n))
+layer_cells : (files : List (List ℕ)) → All IsLayerFile files → All AreCells (map sheet_in files)
+layer_cells [] layers = All-nil AreCells
+layer_cells (file ∷ files) layers =
+    let here : IsLayerFile file = All-head IsLayerFile file files layers in
+    All-cons AreCells (sheet_in file) (map sheet_in files)
+    (subst AreCells (sym (sheet_in-layer file here.0 here.1.sheet here.1.layer)) (IsSheet-layer file here.0 here.1.sheet here.1.layer).cells)
+    (layer_cells files (All-tail IsLayerFile file files layers))
 
-fit_in : (n : ℕ) (sheets : List (List Cell)) → All (IsSheet n) sheets → All (FitsIn n) sheets
-fit_in n sheets are = All-weaker (IsSheet n) (FitsIn n) (λ sheet is. omega (arith, is.count)) sheets are
+frozen_fits : (n : ℕ) (frozen : Option Frozen) → IfSome frozen (IsFrozen n) → All (FitsIn n) (sheet_list frozen)
+frozen_fits n None is = All-nil (FitsIn n)
+frozen_fits n (Some f) is = All-cons (FitsIn n) f.sheet [] (omega (arith, is.sheet_is.count)) (All-nil (FitsIn n))
+
+frozen_cells : (n : ℕ) (frozen : Option Frozen) → IfSome frozen (IsFrozen n) → All AreCells (sheet_list frozen)
+frozen_cells n None is = All-nil AreCells
+frozen_cells n (Some f) is = All-cons AreCells f.sheet [] is.sheet_is.cells (All-nil AreCells)
 
 -- what lies under the top
+under : Base → List (List Cell)
+under b = map sheet_in (b.lowers ++ b.done) ++ sheet_list b.frozen
+
+under_fits : (b : Base) → IsBase b → All (FitsIn b.sectors) (under b)
+unfolding under
+under_fits b base =
+    All-append (FitsIn b.sectors) (map sheet_in (b.lowers ++ b.done)) (sheet_list b.frozen)
+    (layer_fits 0 b.sectors (b.lowers ++ b.done) base.layers base.rising) (frozen_fits b.sectors b.frozen base.frozen_is)
+
 ground : Base → List (List ℕ)
-ground b = fold paint (fold paint (replicate b.sectors zero_sector) (map sheet_in (b.lowers ++ b.done))) (sheet_list b.frozen)
+ground b = flat b.sectors (under b)
 
 -- the image is that, painted with the top
-image-top : (b : Base) → image_of b ≡ paint (ground b) b.top
+sheets-under : (b : Base) → sheets_of b ≡ under b ++ b.top ∷ []
+unfolding under
+sheets-under b = sym (append_assoc (map sheet_in (b.lowers ++ b.done)) (sheet_list b.frozen) (b.top ∷ []))
+
+sheets_fit : (b : Base) → IsBase b → All (FitsIn b.sectors) (under b ++ b.top ∷ [])
+sheets_fit b base =
+    All-append (FitsIn b.sectors) (under b) (b.top ∷ []) (under_fits b base)
+    (All-cons (FitsIn b.sectors) b.top [] (omega (arith, base.top_is.count)) (All-nil (FitsIn b.sectors)))
+
+image-top : (b : Base) → IsBase b → image_of b ≡ paint (ground b) b.top
 unfolding ground
-image-top b =
-    fold-append paint (replicate b.sectors zero_sector) (map sheet_in (b.lowers ++ b.done)) (sheet_list b.frozen ++ b.top ∷ [])
-    ∙ fold-append paint (fold paint (replicate b.sectors zero_sector) (map sheet_in (b.lowers ++ b.done))) (sheet_list b.frozen) (b.top ∷ [])
+image-top b base =
+    ap (flat b.sectors) (sheets-under b)
+    ∙ (flat-over b.sectors (under b ++ b.top ∷ []) (sheets_fit b base)
+    ∙ (fold-append paint (replicate b.sectors zero_sector) (under b) (b.top ∷ [])
+    ∙ ap (λ (i : List (List ℕ)). paint i b.top) (sym (flat-over b.sectors (under b) (under_fits b base)))))
+
+-- with nothing frozen it is the layers under the top
+pub image-over : (b : Base) → IsBase b → b.frozen ≡ None → image_of b ≡ paint (flat b.sectors (map sheet_in (b.lowers ++ b.done))) b.top
+unfolding ground under
+image-over b base none =
+    let layers : List (List Cell) = map sheet_in (b.lowers ++ b.done) in
+    image-top b base
+    ∙ ap (λ (l : List (List Cell)). paint (flat b.sectors l) b.top) (ap (λ (o : Option Frozen). layers ++ sheet_list o) none ∙ append-nil layers)
 
 length-ground : (b : Base) → IsBase b → length (ground b) ≡ b.sectors
 unfolding ground
-length-ground b base =
-    length-painted (fold paint (replicate b.sectors zero_sector) (map sheet_in (b.lowers ++ b.done))) (sheet_list b.frozen) b.sectors
-    (length-flat b.sectors (map sheet_in (b.lowers ++ b.done)) (fit_in b.sectors (map sheet_in (b.lowers ++ b.done)) (layer_sheets b.sectors (b.lowers ++ b.done) base.layers)))
-    (fit_in b.sectors (sheet_list b.frozen) (frozen_sheets b.sectors b.frozen base.frozen_is))
+length-ground b base = length-flat b.sectors (under b) (under_fits b base)
 
 -- cells put into the top are sectors put into the image
 image-put_at : (b : Base) (at : ℕ) (new : List Cell) (out : List (List ℕ)) → IsBase b
@@ -384,7 +473,7 @@ image-put_at : (b : Base) (at : ℕ) (new : List Cell) (out : List (List ℕ)) �
     → paint (ground b) (put_at at new b.top) ≡ put_at at out (image_of b)
 image-put_at b at new out base makes same fits =
     paint-put_at at new out (ground b) b.top makes same (base.top_is.count ∙ sym (length-ground b base)) (subst (λ n. at + length new ≤ n) (sym (length-ground b base)) fits)
-    ∙ ap (λ r. put_at at out r) (sym (image-top b))
+    ∙ ap (λ r. put_at at out r) (sym (image-top b base))
 
 -- a file in place of a sheet that it has
 sheets_sealed : (lowers done : List (List ℕ)) (file : List ℕ) (sheet top : List Cell) → sheet_in file ≡ sheet
@@ -394,44 +483,6 @@ sheets_sealed lowers done file sheet top back =
     ∙ (ap (λ l. l ++ top ∷ []) (map-append sheet_in (lowers ++ done) (file ∷ []))
     ∙ (append_assoc (map sheet_in (lowers ++ done)) (sheet_in file ∷ []) (top ∷ [])
     ∙ ap (λ s. map sheet_in (lowers ++ done) ++ (s ∷ top ∷ [])) back))
-
--- an act changes the image of what it makes
-pub image-step : (b : Base) (act : Act) → IsBase b → Allowed b act → SealsLayer b → image_of (step b act) ≡ changed (image_of b) act
-unfolding ground
-image-step b (Read at count) base may back = refl
-image-step b (Write at bytes) base may back =
-    image-top (step b (Write at bytes))
-    ∙ image-put_at b at (map Filled (sectors_in bytes)) (sectors_in bytes) base
-    (λ x same. paint-filled x (sectors_in bytes) (same ∙ length-map (sectors_in bytes) (λ s. Filled s)))
-    (sym (length-map (sectors_in bytes) (λ s. Filled s)))
-    (rw (length-map (sectors_in bytes) (λ s. Filled s), length-sectors_in bytes) may.within)
-image-step b (Zero at count) base may back =
-    image-top (step b (Zero at count))
-    ∙ image-put_at b at (replicate count sheets.Zero) (replicate count zero_sector) base
-    (λ x same. paint-zeros x count (same ∙ length-replicate count sheets.Zero))
-    (length-replicate count zero_sector ∙ sym (length-replicate count sheets.Zero))
-    (rw length-replicate may)
-image-step b Flush base may back = refl
-image-step b (Freeze uuid) base may back =
-    image-top (step b (Freeze uuid))
-    ∙ (paint-holes (ground (step b (Freeze uuid))) b.sectors (omega (arith, frozen_length))
-    ∙ (ap (λ f. paint (fold paint (fold paint (replicate b.sectors zero_sector) (map sheet_in (b.lowers ++ b.done))) (sheet_list f)) b.top) (sym may.free)
-    ∙ sym (image-top b)))
-  where
-    frozen_length : length (ground (step b (Freeze uuid))) ≡ b.sectors
-    frozen_length =
-        length-painted (fold paint (replicate b.sectors zero_sector) (map sheet_in (b.lowers ++ b.done))) (b.top ∷ []) b.sectors
-        (length-flat b.sectors (map sheet_in (b.lowers ++ b.done)) (fit_in b.sectors (map sheet_in (b.lowers ++ b.done)) (layer_sheets b.sectors (b.lowers ++ b.done) base.layers)))
-        (fit_in b.sectors (b.top ∷ []) (All-cons (IsSheet b.sectors) b.top [] base.top_is (All-nil (IsSheet b.sectors))))
-image-step b (Seal uuid) base may back = sealed (pending-frozen b.frozen uuid may)
-  where
-    sealed : ((sheet : List Cell) × (b.frozen ≡ frozen_as uuid sheet)) → image_of (step b (Seal uuid)) ≡ image_of b
-    sealed found =
-        ap (λ f. flat b.sectors (map sheet_in (b.lowers ++ (b.done ++ sealed_over (b.lowers ++ b.done) f)) ++ b.top ∷ [])) found.1
-        ∙ (ap (flat b.sectors) (sheets_sealed b.lowers b.done (file_of uuid (top_uuid (b.lowers ++ b.done)) found.0) found.0 b.top
-        (sheet_in-IsLayer b.sectors uuid found.0 (file_of uuid (top_uuid (b.lowers ++ b.done)) found.0) (back (record { uuid = uuid; sheet = found.0 }) found.1)))
-        ∙ ap (λ f. flat b.sectors (map sheet_in (b.lowers ++ b.done) ++ (sheet_list f ++ b.top ∷ []))) (sym found.1))
-image-step b (Fault asked) base may back = refl
 
 -- a sheet in which cells are replaced is a sheet
 IsSheet-put_at : (n at : ℕ) (new sheet : List Cell) → IsSheet n sheet → All IsCell new → at + length new ≤ n → IsSheet n (put_at at new sheet)
@@ -449,6 +500,7 @@ base-step b (Read at count) base may back = base
 base-step b (Write at bytes) base may back = record {
   frozen_is = base.frozen_is;
   layers = base.layers;
+  rising = base.rising;
   top_is = IsSheet-put_at b.sectors at (map (λ s. Filled s) (sectors_in bytes)) b.top base.top_is
       (All-map IsCell (λ s. Filled s) (sectors_in bytes) (whole-sectors_in bytes))
       (rw (length-map (sectors_in bytes) (λ s. Filled s), length-sectors_in bytes) may.within);
@@ -456,6 +508,7 @@ base-step b (Write at bytes) base may back = record {
 base-step b (Zero at count) base may back = record {
   frozen_is = base.frozen_is;
   layers = base.layers;
+  rising = base.rising;
   top_is = IsSheet-put_at b.sectors at (replicate count sheets.Zero) b.top base.top_is
       (All-replicate IsCell count sheets.Zero tt) (rw length-replicate may);
 }
@@ -464,21 +517,100 @@ base-step b (Freeze uuid) base may back = record {
   top_is = record { some = base.top_is.some; few = base.top_is.few; count = length-replicate b.sectors Hole; cells = All-replicate IsCell b.sectors Hole tt };
   frozen_is = record { long = may.long; named = may.named; sheet_is = base.top_is };
   layers = base.layers;
+  rising = base.rising;
 }
 base-step b (Seal uuid) base may back = sealed (pending-frozen b.frozen uuid may)
   where
     sealed : ((sheet : List Cell) × (b.frozen ≡ frozen_as uuid sheet)) → IsBase (step b (Seal uuid))
     sealed found =
-        let file : List ℕ = file_of uuid (top_uuid (b.lowers ++ b.done)) found.0 in
+        let f : Frozen = record { uuid = uuid; sheet = found.0 } in
+        let file : List ℕ = sealed_file b f in
+        let is = back f found.1 in
+        let joined : (b.lowers ++ b.done) ++ file ∷ [] ≡ b.lowers ++ (b.done ++ file ∷ []) = append_assoc b.lowers b.done (file ∷ []) in
         record {
           top_is = base.top_is;
           frozen_is = tt;
-          layers = subst (λ f. All (IsLayerFile b.sectors) (b.lowers ++ (b.done ++ sealed_over (b.lowers ++ b.done) f))) (sym found.1)
-              (subst (All (IsLayerFile b.sectors)) (append_assoc b.lowers b.done (file ∷ []))
-              (All-append (IsLayerFile b.sectors) (b.lowers ++ b.done) (file ∷ []) base.layers
-              (All-cons (IsLayerFile b.sectors) file [] (uuid, found.0, back (record { uuid = uuid; sheet = found.0 }) found.1) (All-nil (IsLayerFile b.sectors)))));
+          layers = subst (λ o. All IsLayerFile (b.lowers ++ (b.done ++ sealed_over (b.lowers ++ b.done) o))) (sym found.1)
+              (subst (All IsLayerFile) joined
+              (All-append IsLayerFile (b.lowers ++ b.done) (file ∷ []) base.layers
+              (All-cons IsLayerFile file [] (is.head, record { sheet = found.0; layer = is.layer }) (All-nil IsLayerFile))));
+          rising = subst (λ o. AreRising 0 b.sectors (map size_in (b.lowers ++ (b.done ++ sealed_over (b.lowers ++ b.done) o)))) (sym found.1)
+              (subst (λ files. AreRising 0 b.sectors (map size_in files)) joined
+              (rising-push 0 b.sectors (b.lowers ++ b.done) file (size_in-IsLayer b.sectors uuid found.0 file is) base.rising));
         }
+base-step b (Grow sectors) base may back = record {
+  top_is = record {
+    some = omega (arith, base.top_is.some, may.more);
+    few = may.few;
+    count = length-append b.top (holes (sectors - length b.top))
+        ∙ (let e : length b.top + length (holes (sectors - length b.top)) ≡ sectors = omega (arith, length-replicate (sectors - length b.top) Hole, base.top_is.count, may.more) in e);
+    cells = All-append IsCell b.top (holes (sectors - length b.top)) base.top_is.cells (All-replicate IsCell (sectors - length b.top) Hole tt);
+  };
+  frozen_is = subst (λ o. IfSome o (IsFrozen sectors)) (sym may.free) tt;
+  layers = base.layers;
+  rising = rising-more 0 b.sectors sectors (map size_in (b.lowers ++ b.done)) (omega (arith, may.more)) base.rising;
+}
 base-step b (Fault asked) base may back = base
+
+-- what a base reads as is an image
+pub base-is_image : (b : Base) → BaseIsImage b
+base-is_image b base = record {
+  some = base.top_is.some;
+  few = base.top_is.few;
+  count = ap length (image-top b base) ∙ (length-paint (ground b) b.top (omega (arith, length-ground b base, base.top_is.count)) ∙ length-ground b base);
+  sectors = AreSectors-flat b.sectors (sheets_of b) all;
+}
+  where
+    all : All AreCells (sheets_of b)
+    all = All-append AreCells (map sheet_in (b.lowers ++ b.done)) (sheet_list b.frozen ++ b.top ∷ []) (layer_cells (b.lowers ++ b.done) base.layers)
+        (All-append AreCells (sheet_list b.frozen) (b.top ∷ []) (frozen_cells b.sectors b.frozen base.frozen_is)
+        (All-cons AreCells b.top [] base.top_is.cells (All-nil AreCells)))
+
+-- an act changes the image of what it makes
+pub image-step : (b : Base) (act : Act) → IsBase b → Allowed b act → SealsLayer b → image_of (step b act) ≡ changed (image_of b) act
+unfolding ground under
+image-step b (Read at count) base may back = refl
+image-step b (Write at bytes) base may back =
+    image-top (step b (Write at bytes)) (base-step b (Write at bytes) base may back)
+    ∙ image-put_at b at (map Filled (sectors_in bytes)) (sectors_in bytes) base
+    (λ x same. paint-filled x (sectors_in bytes) (same ∙ length-map (sectors_in bytes) (λ s. Filled s)))
+    (sym (length-map (sectors_in bytes) (λ s. Filled s)))
+    (rw (length-map (sectors_in bytes) (λ s. Filled s), length-sectors_in bytes) may.within)
+image-step b (Zero at count) base may back =
+    image-top (step b (Zero at count)) (base-step b (Zero at count) base may back)
+    ∙ image-put_at b at (replicate count sheets.Zero) (replicate count zero_sector) base
+    (λ x same. paint-zeros x count (same ∙ length-replicate count sheets.Zero))
+    (length-replicate count zero_sector ∙ sym (length-replicate count sheets.Zero))
+    (rw length-replicate may)
+image-step b Flush base may back = refl
+image-step b (Freeze uuid) base may back =
+    let frozen : Base = step b (Freeze uuid) in
+    let good : IsBase frozen = base-step b (Freeze uuid) base may back in
+    image-top frozen good
+    ∙ (paint-holes (ground frozen) b.sectors (omega (arith, length-ground frozen good))
+    ∙ ap (flat b.sectors) (ap (λ f. map sheet_in (b.lowers ++ b.done) ++ (sheet_list f ++ b.top ∷ [])) (sym may.free)))
+image-step b (Seal uuid) base may back = sealed (pending-frozen b.frozen uuid may)
+  where
+    sealed : ((sheet : List Cell) × (b.frozen ≡ frozen_as uuid sheet)) → image_of (step b (Seal uuid)) ≡ image_of b
+    sealed found =
+        ap (λ f. flat b.sectors (map sheet_in (b.lowers ++ (b.done ++ sealed_over (b.lowers ++ b.done) f)) ++ b.top ∷ [])) found.1
+        ∙ (ap (flat b.sectors) (sheets_sealed b.lowers b.done (sealed_file b (record { uuid = uuid; sheet = found.0 })) found.0 b.top
+        (sheet_in-IsLayer b.sectors uuid found.0 (sealed_file b (record { uuid = uuid; sheet = found.0 })) (back (record { uuid = uuid; sheet = found.0 }) found.1)))
+        ∙ ap (λ f. flat b.sectors (map sheet_in (b.lowers ++ b.done) ++ (sheet_list f ++ b.top ∷ []))) (sym found.1))
+image-step b (Grow sectors) base may back =
+    let next : Base = step b (Grow sectors) in
+    let good : IsBase next = base-step b (Grow sectors) base may back in
+    let old : List (List ℕ) = ground b in
+    let size : length old ≡ b.sectors = length-ground b base in
+    let zeros : List (List ℕ) = replicate (sectors - length old) zero_sector in
+    let more : ℕ = sectors - length b.top in
+    image-top next good
+    ∙ (ap (λ (i : List (List ℕ)). paint i (with_holes sectors b.top)) (flat-lengthened b.sectors sectors (under b) (under_fits b base) (omega (arith, may.more)))
+    ∙ (paint-append old zeros b.top (holes more) (size ∙ sym base.top_is.count)
+    ∙ (ap (λ (r : List (List ℕ)). paint old b.top ++ r) (paint-holes zeros more (omega (arith, length-replicate (sectors - length old) zero_sector, size, base.top_is.count)))
+    ∙ (ap (λ (i : List (List ℕ)). i ++ zeros) (sym (image-top b base))
+    ∙ ap (λ (n : ℕ). image_of b ++ replicate (sectors - n) zero_sector) (size ∙ sym (base-is_image b base).count)))))
+image-step b (Fault asked) base may back = refl
 
 pub base-stays : (b : Base) (h : History) → BaseStays b h
 base-stays b [] base few p = (base, few)
@@ -492,20 +624,6 @@ after-is_image b (e ∷ h) base few p =
     let back : SealsLayer b = seals-layer b base few in
     after-is_image (step b e.act) h (base-step b e.act base p.1 back) (few-step b e.act few p.0) p.2
     ∙ ap (λ image. fold (λ i (x : Entry Act). changed i x.act) image h) (image-step b e.act base p.1 back)
-
--- what a base reads as is an image
-pub base-is_image : (b : Base) → BaseIsImage b
-base-is_image b base = record {
-  some = base.top_is.some;
-  few = base.top_is.few;
-  count = ap length (image-top b) ∙ (length-paint (ground b) b.top (omega (arith, length-ground b base, base.top_is.count)) ∙ length-ground b base);
-  sectors = AreSectors-flat b.sectors (sheets_of b) all;
-}
-  where
-    all : All (IsSheet b.sectors) (sheets_of b)
-    all = All-append (IsSheet b.sectors) (map sheet_in (b.lowers ++ b.done)) (sheet_list b.frozen ++ b.top ∷ []) (layer_sheets b.sectors (b.lowers ++ b.done) base.layers)
-        (All-append (IsSheet b.sectors) (sheet_list b.frozen) (b.top ∷ []) (frozen_sheets b.sectors b.frozen base.frozen_is)
-        (All-cons (IsSheet b.sectors) b.top [] base.top_is (All-nil (IsSheet b.sectors))))
 
 -- the failed steps of a history in two parts, and one entry longer
 pub fault_count-append : (h more : History) → fault_count (h ++ more) ≡ fault_count h + fault_count more

@@ -16,7 +16,7 @@ use Rattle.lsmt_header.proofs.BlockLemmas.{raw_of-block}
 use Rattle.flat_image.specs.Sheets.{Cell, IsCell, IsSheet}
 use Rattle.flat_image.specs.RowCells.{cell_of, cells_from, sheet_of, AreSpelled}
 use Rattle.flat_image.specs.LayerFiles.{LayerFile}
-use Rattle.flat_image.specs.LayerReading.{row_in, row_of, rows_in, sheet_in, uuid_in, IsLayer}
+use Rattle.flat_image.specs.LayerReading.{row_in, row_of, rows_in, sheet_in, uuid_in, size_in, IsLayer}
 use Rattle.flat_image.specs.HistoryLaws.{ReadsLayer}
 use Rattle.flat_image.proofs.CellLaws.{whole_cells}
 
@@ -54,6 +54,10 @@ pub uuid_in-layer : (file : List ℕ) (head : Head) (sheet : List Cell) → Laye
 unfolding uuid_in
 uuid_in-layer file head sheet is = ap (λ r. r.uuid) (raw_of-block (take 4096 file) head is.layer.framed.front)
 
+pub size_in-layer : (file : List ℕ) (head : Head) (sheet : List Cell) → LayerFile file head sheet → size_in file ≡ head.sectors
+unfolding size_in
+size_in-layer file head sheet is = ap (λ r. r.sectors) (raw_of-block (take 4096 file) head is.layer.framed.front)
+
 -- the cells of a range
 pub length-range : (at count : ℕ) → length (range_with_len at count) ≡ count
 length-range at zero = refl
@@ -81,6 +85,9 @@ sheet_in-IsLayer n uuid sheet file is = sheet_in-layer file is.head sheet is.lay
 pub uuid_in-IsLayer : (n : ℕ) (uuid : List ℕ) (sheet : List Cell) (file : List ℕ) → IsLayer n uuid sheet file → uuid_in file ≡ uuid
 uuid_in-IsLayer n uuid sheet file is = uuid_in-layer file is.head sheet is.layer ∙ is.named
 
+pub size_in-IsLayer : (n : ℕ) (uuid : List ℕ) (sheet : List Cell) (file : List ℕ) → IsLayer n uuid sheet file → size_in file ≡ n
+size_in-IsLayer n uuid sheet file is = size_in-layer file is.head sheet is.layer ∙ is.size
+
 pub IsSheet-IsLayer : (n : ℕ) (uuid : List ℕ) (sheet : List Cell) (file : List ℕ) → IsLayer n uuid sheet file → IsSheet n sheet
 IsSheet-IsLayer n uuid sheet file is = subst (λ k. IsSheet k sheet) is.size (IsSheet-layer file is.head sheet is.layer)
 
@@ -88,5 +95,6 @@ pub reads-layer : (file : List ℕ) (head : Head) (sheet : List Cell) → LayerF
 reads-layer file head sheet is = record {
   cells = sheet_in-layer file head sheet is;
   name = uuid_in-layer file head sheet is;
+  size = size_in-layer file head sheet is;
   whole = IsSheet-layer file head sheet is;
 }

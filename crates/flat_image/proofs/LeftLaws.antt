@@ -5,7 +5,7 @@ use Rattle.std.proofs.lemmas.List.Elements.{All-nil, All-append, All-cons}
 use Rattle.flat_image.specs.declared.act.Act.{Act}
 use Rattle.flat_image.specs.declared.act.Act.TheVariants.{Fault}
 use Rattle.flat_image.specs.declared.act.Asked.{Asked}
-use Rattle.flat_image.specs.declared.act.Asked.TheVariants.{Nothing, Uuid}
+use Rattle.flat_image.specs.declared.act.Asked.TheVariants.{Nothing, Uuid, Sectors}
 use Rattle.flat_image.specs.declared.base.Base.{Base}
 use Rattle.flat_image.specs.declared.stands.Entry.{Entry}
 use Rattle.flat_image.specs.Entries.{entry}
@@ -52,7 +52,7 @@ Left-now base h = record { front = h; kept = Kept-all h; is = inl refl }
 
 -- and nothing else where all is kept and no step of a commit failed
 pub leaves-now : (base : Base) (h : History) → LeavesNow base h
-leaves-now base h all none b left =
+leaves-now base h all none still b left =
     let rest : left.kept.rest ≡ [] = nil_from_length left.kept.rest (behind left.front left.kept.rest left.kept.splits (((kept-reaches h left.front).0 left.kept).1)) in
     let whole : h ≡ left.front = left.kept.splits ∙ (ap (λ l. left.front ++ l) rest ∙ append-nil left.front) in
     let same : put_top (now base h) (stand (now base left.front)) ≡ now base h = ap (λ (l : History). put_top (now base h) (stand (now base l))) (sym whole) in
@@ -67,3 +67,4 @@ leaves-now base h all none b left =
     blameless : (asked : Asked) → Blamed h asked → Advances (put_top (now base h) (stand (now base left.front))) asked b → ⊥
     blameless Nothing blamed advances = advances
     blameless (Uuid uuid) blamed advances = none uuid blamed
+    blameless (Sectors sectors) blamed advances = still sectors blamed

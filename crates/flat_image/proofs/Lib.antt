@@ -17,6 +17,7 @@ pub mod RowStretches
 pub mod Runs
 pub mod SealedSheets
 pub mod SpelledRows
+pub mod StackSizes
 pub mod StretchCounts
 pub mod StretchLaws
 pub mod StretchUnique

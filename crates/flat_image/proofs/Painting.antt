@@ -1,12 +1,12 @@
 -- Laws of painting: parts of an image, holes, and cells that replace others.
-use Rattle.std.proofs.Common.{◌≡◌, ℕ, zero, suc, ◌+◌, ◌≤◌, List, [], ◌∷◌, ◌++◌, length, map, take, drop, refl, sym, ap, subst, ◌∙◌, ◌*◌, arith, length-append, length-take, length-drop}
+use Rattle.std.proofs.Common.{◌≡◌, ℕ, zero, suc, ◌+◌, ◌-◌, ◌≤◌, List, [], ◌∷◌, ◌++◌, length, map, take, drop, refl, sym, ap, subst, ◌∙◌, ◌*◌, arith, append_assoc, length-append, length-take, length-drop}
 use Rattle.std.proofs.Math.ListN.{replicate}
 use Rattle.std.proofs.Math.Seq.{take-append-add, drop-append-add, take-nil, drop-nil}
 use Rattle.std.proofs.lemmas.List.{take-append-drop, length-replicate, drop-drop, nil_from_length, replicate-append-replicate}
 use Rattle.std.proofs.lemmas.List.Folds.{concat-append}
 use Rattle.std.proofs.lemmas.List.Elements.{All-nil, All-cons, All-head, All-tail, All-append, All-take, All-drop, All-replicate}
 use Rattle.std.specs.Prelude.{fold, All}
-use Rattle.flat_image.specs.Sheets.{Cell, Hole, Zero, Filled, zero_sector, IsSector, IsCell, IsSheet, painted, paint, flat, bytes_of, image_in}
+use Rattle.flat_image.specs.Sheets.{Cell, Hole, Zero, Filled, zero_sector, IsSector, IsCell, painted, paint, lengthened, flat, bytes_of, image_in}
 use Rattle.flat_image.specs.Sectors.{sector_count, sectors_in, put_at}
 
 -- painting keeps the number of sectors
@@ -72,8 +72,71 @@ length-painted image (sheet ∷ sheets) n is fit =
     (length-paint image sheet (subst (λ k. length sheet ≤ k) (sym is) (All-head (FitsIn n) sheet sheets fit)) ∙ is)
     (All-tail (FitsIn n) sheet sheets fit)
 
+-- the number of sectors with those that are added
+pub length-lengthened : (n : ℕ) (image : List (List ℕ)) → length image ≤ n → length (lengthened n image) ≡ n
+length-lengthened n image fits =
+    length-append image (replicate (n - length image) zero_sector)
+    ∙ (let e : length image + length (replicate (n - length image) zero_sector) ≡ n = omega (arith, length-replicate (n - length image) zero_sector) in e)
+
+-- an image and a sheet of at most n make one of at most n
+pub paint-fits : (n : ℕ) (image : List (List ℕ)) (cells : List Cell) → length image ≤ n → length cells ≤ n → length (paint image cells) ≤ n
+paint-fits n [] [] short fits = omega arith
+paint-fits zero [] (c ∷ cs) short fits = absurd (omega (arith, fits))
+paint-fits (suc n) [] (c ∷ cs) short fits = omega (arith, paint-fits n [] cs (omega arith) (omega (arith, fits)))
+paint-fits n (s ∷ ss) [] short fits = short
+paint-fits zero (s ∷ ss) (c ∷ cs) short fits = absurd (omega (arith, fits))
+paint-fits (suc n) (s ∷ ss) (c ∷ cs) short fits = omega (arith, paint-fits n ss cs (omega (arith, short)) (omega (arith, fits)))
+
+-- sectors of zeros behind an image, painted, are as many behind what the image alone makes
+paint-behind : (image : List (List ℕ)) (cells : List Cell) (k j : ℕ) → length cells ≤ length image + k → length image + k ≡ length (paint image cells) + j
+    → paint (image ++ replicate k zero_sector) cells ≡ paint image cells ++ replicate j zero_sector
+paint-behind [] [] k j fits same =
+    paint-nil (replicate k zero_sector) ∙ ap (λ (n : ℕ). replicate n zero_sector) (let e : k ≡ j = omega (arith, same) in e)
+paint-behind [] (c ∷ cs) zero j fits same = absurd (omega (arith, fits))
+paint-behind [] (c ∷ cs) (suc k) j fits same = ap (λ r. painted zero_sector c ∷ r) (paint-behind [] cs k j (omega (arith, fits)) (omega (arith, same)))
+paint-behind (s ∷ ss) [] k j fits same = ap (λ (n : ℕ). s ∷ (ss ++ replicate n zero_sector)) (let e : k ≡ j = omega (arith, same) in e)
+paint-behind (s ∷ ss) (c ∷ cs) k j fits same = ap (λ r. painted s c ∷ r) (paint-behind ss cs k j (omega (arith, fits)) (omega (arith, same)))
+
+-- so zeros may be added before a sheet is painted or behind it
+pub paint-lengthened : (n : ℕ) (image : List (List ℕ)) (cells : List Cell) → length image ≤ n → length cells ≤ n
+    → paint (lengthened n image) cells ≡ lengthened n (paint image cells)
+paint-lengthened n image cells short fits =
+    paint-behind image cells (n - length image) (n - length (paint image cells)) (omega (arith, short, fits)) (omega (arith, short, paint-fits n image cells short fits))
+
+painted-lengthened : (n : ℕ) (image : List (List ℕ)) (sheets : List (List Cell)) → length image ≤ n → All (FitsIn n) sheets
+    → lengthened n (fold paint image sheets) ≡ fold paint (lengthened n image) sheets
+painted-lengthened n image [] short fit = refl
+painted-lengthened n image (sheet ∷ sheets) short fit =
+    let here : length sheet ≤ n = All-head (FitsIn n) sheet sheets fit in
+    painted-lengthened n (paint image sheet) sheets (paint-fits n image sheet short here) (All-tail (FitsIn n) sheet sheets fit)
+    ∙ ap (λ (i : List (List ℕ)). fold paint i sheets) (sym (paint-lengthened n image sheet short here))
+
+-- sheets of at most n cells make what they make over n sectors of zeros
+pub flat-over : (n : ℕ) (sheets : List (List Cell)) → All (FitsIn n) sheets → flat n sheets ≡ fold paint (replicate n zero_sector) sheets
+flat-over n sheets fit =
+    painted-lengthened n [] sheets (omega arith) fit
+    ∙ ap (λ (k : ℕ). fold paint (replicate k zero_sector) sheets) (let e : n - 0 ≡ n = omega arith in e)
+
 pub length-flat : (n : ℕ) (sheets : List (List Cell)) → All (FitsIn n) sheets → length (flat n sheets) ≡ n
-length-flat n sheets fit = length-painted (replicate n zero_sector) sheets n (length-replicate n zero_sector) fit
+length-flat n sheets fit = ap length (flat-over n sheets fit) ∙ length-painted (replicate n zero_sector) sheets n (length-replicate n zero_sector) fit
+
+-- zeros that are added up to n and then up to m are added up to m
+pub lengthened-twice : (n m : ℕ) (image : List (List ℕ)) → length image ≤ n → n ≤ m → lengthened m (lengthened n image) ≡ lengthened m image
+lengthened-twice n m image short more =
+    let size : length (lengthened n image) ≡ n = length-lengthened n image short in
+    append_assoc image (replicate (n - length image) zero_sector) (replicate (m - length (lengthened n image)) zero_sector)
+    ∙ ap (λ (r : List (List ℕ)). image ++ r)
+    (replicate-append-replicate (n - length image) (m - length (lengthened n image)) zero_sector
+    ∙ ap (λ (k : ℕ). replicate k zero_sector) (let e : n - length image + (m - length (lengthened n image)) ≡ m - length image = omega (arith, size, short, more) in e))
+
+-- sheets that fit in n sectors, made up to m, are what they make in n, made up to m
+pub flat-lengthened : (n m : ℕ) (sheets : List (List Cell)) → All (FitsIn n) sheets → n ≤ m → flat m sheets ≡ lengthened m (flat n sheets)
+flat-lengthened n m sheets fit more = sym (lengthened-twice n m (fold paint [] sheets) (painted-fits n [] sheets (omega arith) fit) more)
+  where
+    painted-fits : (k : ℕ) (image : List (List ℕ)) (all : List (List Cell)) → length image ≤ k → All (FitsIn k) all → length (fold paint image all) ≤ k
+    painted-fits k image [] short fits = short
+    painted-fits k image (sheet ∷ rest) short fits =
+        painted-fits k (paint image sheet) rest (paint-fits k image sheet short (All-head (FitsIn k) sheet rest fits)) (All-tail (FitsIn k) sheet rest fits)
 
 -- the number of elements where some are replaced
 pub length-put_at : {A : Type 0} (at : ℕ) (new old : List A) → at + length new ≤ length old → length (put_at at new old) ≡ length old
@@ -175,14 +238,22 @@ AreSectors-paint (s ∷ ss) (c ∷ cs) whole are =
     All-cons IsSector (painted s c) (paint ss cs) (whole_under s c (All-head IsSector s ss whole) (All-head IsCell c cs are))
     (AreSectors-paint ss cs (All-tail IsSector s ss whole) (All-tail IsCell c cs are))
 
-AreSectors-painted : (n : ℕ) (image : List (List ℕ)) (sheets : List (List Cell)) → AreWhole image → All (IsSheet n) sheets → AreWhole (fold paint image sheets)
-AreSectors-painted n image [] whole are = whole
-AreSectors-painted n image (sheet ∷ sheets) whole are =
-    let here : IsSheet n sheet = All-head (IsSheet n) sheet sheets are in
-    AreSectors-painted n (paint image sheet) sheets (AreSectors-paint image sheet whole here.cells) (All-tail (IsSheet n) sheet sheets are)
+-- the cells of a sheet, of whatever length
+abbrev pub AreCells : List Cell → Type 0
+AreCells sheet = All IsCell sheet
 
-pub AreSectors-flat : (n : ℕ) (sheets : List (List Cell)) → All (IsSheet n) sheets → AreWhole (flat n sheets)
-AreSectors-flat n sheets are = AreSectors-painted n (replicate n zero_sector) sheets (AreWhole-zeros n) are
+AreSectors-painted : (image : List (List ℕ)) (sheets : List (List Cell)) → AreWhole image → All AreCells sheets → AreWhole (fold paint image sheets)
+AreSectors-painted image [] whole are = whole
+AreSectors-painted image (sheet ∷ sheets) whole are =
+    AreSectors-painted (paint image sheet) sheets (AreSectors-paint image sheet whole (All-head AreCells sheet sheets are)) (All-tail AreCells sheet sheets are)
+
+pub AreWhole-lengthened : (n : ℕ) (image : List (List ℕ)) → AreWhole image → AreWhole (lengthened n image)
+AreWhole-lengthened n image whole =
+    All-append IsSector image (replicate (n - length image) zero_sector) whole (AreWhole-zeros (n - length image))
+
+pub AreSectors-flat : (n : ℕ) (sheets : List (List Cell)) → All AreCells sheets → AreWhole (flat n sheets)
+AreSectors-flat n sheets are =
+    AreWhole-lengthened n (fold paint [] sheets) (AreSectors-painted [] sheets (All-nil IsSector) are)
 
 -- sectors put into an image are bytes put into its bytes
 pub bytes_of-put_at : (at : ℕ) (new image : List (List ℕ)) → AreWhole new → AreWhole image

@@ -2,21 +2,21 @@
 use Rattle.std.proofs.Common.{◌≡◌, ℕ, ◌+◌, ◌*◌, ◌^◌, ◌<◌, ◌≤◌, List, [], ◌∷◌, ◌++◌, length, take, drop, refl, sym, ap, ◌∙◌, subst, arith, length-append}
 use Rattle.std.proofs.Math.ListN.{replicate}
 use Rattle.std.proofs.lemmas.List.{length-replicate}
-use Rattle.std.proofs.lemmas.List.Elements.{All-drop}
+use Rattle.std.proofs.lemmas.List.Elements.{All-nil, All-cons, All-drop}
 use Rattle.std.specs.Prelude.{fold}
 use Rattle.sector_extent.specs.Rows.{rows_for}
 use Rattle.flat_image.specs.declared.act.Act.{Act}
-use Rattle.flat_image.specs.declared.act.Act.TheVariants.{Read, Write, Zero, Flush, Freeze, Seal, Fault}
+use Rattle.flat_image.specs.declared.act.Act.TheVariants.{Read, Write, Zero, Flush, Freeze, Seal, Grow, Fault}
 use Rattle.flat_image.specs.declared.act.Asked.TheVariants.{Nothing}
 use Rattle.flat_image.specs.declared.base.Base.{Base}
 use Rattle.flat_image.specs.declared.stands.Entry.{Entry}
-use Rattle.flat_image.specs.Sheets.{IsSector, zero_sector, bytes_of}
+use Rattle.flat_image.specs.Sheets.{Hole, IsSector, zero_sector, bytes_of}
 use Rattle.flat_image.specs.Sectors.{sectors_in, sector_count, put_at}
-use Rattle.flat_image.specs.Base.{fresh, image_of}
+use Rattle.flat_image.specs.Base.{holes, fresh, image_of}
 use Rattle.flat_image.specs.Entries.{entry}
 use Rattle.flat_image.specs.History.{History, step, now, after, changed, reply, HasRoom, IsWithin}
 use Rattle.flat_image.specs.PlainPorts.{IsPlain}
-use Rattle.flat_image.proofs.Painting.{AreWhole, AreWhole-zeros, AreWhole-put_at, whole-sectors_in, bytes_of-take, bytes_of-drop, bytes_of-put_at, bytes_of-image_in, bytes_of-zeros, length-put_at, paint-holes}
+use Rattle.flat_image.proofs.Painting.{FitsIn, flat-over, AreWhole-lengthened, AreWhole, AreWhole-zeros, AreWhole-put_at, whole-sectors_in, bytes_of-take, bytes_of-drop, bytes_of-put_at, bytes_of-image_in, bytes_of-zeros, length-put_at, paint-holes}
 use Rattle.flat_image.proofs.HistoryLaws.{now-entry, after-entry}
 
 -- the sectors of an image are whole along every history
@@ -27,6 +27,7 @@ changed-whole image (Zero at count) whole = AreWhole-put_at at (replicate count 
 changed-whole image Flush whole = whole
 changed-whole image (Freeze uuid) whole = whole
 changed-whole image (Seal uuid) whole = whole
+changed-whole image (Grow sectors) whole = AreWhole-lengthened sectors image whole
 changed-whole image (Fault asked) whole = whole
 
 along-whole : (image : List (List ℕ)) (h : History) → AreWhole image → AreWhole (fold (λ i (e : Entry Act). changed i e.act) image h)
@@ -35,7 +36,9 @@ along-whole image (e ∷ h) whole = along-whole (changed image e.act) h (changed
 
 -- an image without layers begins as zeros
 pub image-fresh : (n : ℕ) → image_of (fresh n []) ≡ replicate n zero_sector
-image-fresh n = paint-holes (replicate n zero_sector) n (omega (arith, length-replicate n zero_sector))
+image-fresh n =
+    flat-over n (holes n ∷ []) (All-cons (FitsIn n) (holes n) [] (omega (arith, length-replicate n Hole)) (All-nil (FitsIn n)))
+    ∙ paint-holes (replicate n zero_sector) n (omega (arith, length-replicate n zero_sector))
 
 pub whole-after : (n : ℕ) (h : History) → AreWhole (after (fresh n []) h)
 whole-after n h = along-whole (image_of (fresh n [])) h (subst AreWhole (sym (image-fresh n)) (AreWhole-zeros n))

@@ -211,6 +211,15 @@ pub stretches-holes : (at n : ℕ) → stretches at (holes n) ≡ []
 stretches-holes at zero = refl
 stretches-holes at (suc n) = stretches-holes (at + 1) n
 
+-- and holes behind cells add none
+pub stretches-more_holes : (at : ℕ) (cells : List Cell) (n : ℕ) → stretches at (cells ++ holes n) ≡ stretches at cells
+stretches-more_holes at [] n = stretches-holes at n
+stretches-more_holes at (Hole ∷ cells) n = stretches-more_holes (at + 1) cells n
+stretches-more_holes at (Zero ∷ cells) n =
+    ap (with_stretch (record { at = at; count = 1; zeroed = true })) (stretches-more_holes (at + 1) cells n)
+stretches-more_holes at (Filled sector ∷ cells) n =
+    ap (with_stretch (record { at = at; count = 1; zeroed = false })) (stretches-more_holes (at + 1) cells n)
+
 -- the stretches have no more cells than there are
 abbrev cells_in : List Stretch → ℕ
 cells_in [] = 0

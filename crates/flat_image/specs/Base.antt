@@ -1,16 +1,22 @@
 -- What an image starts from: layers, perhaps a frozen sheet, a top, and what its top has used.
-use Rattle.std.specs.Prelude.{◌≡◌, ◌≢◌, ℕ, ◌*◌, ◌^◌, ◌≤◌, List, [], ◌∷◌, ◌++◌, length, All, Option, Some, None, IfSome, map, replicate, option_map}
+use Rattle.std.specs.Prelude.{◌≡◌, ◌≢◌, ℕ, ◌-◌, ◌*◌, ◌^◌, ◌≤◌, List, [], ◌∷◌, ◌++◌, length, All, Option, Some, None, IfSome, map, replicate, option_map}
+use Rattle.lsmt_header.specs.declared.head.Head.{Head}
 use Rattle.lsmt_header.specs.Blocks.{nil}
 use Rattle.flat_image.specs.declared.base.Base.{Base}
 use Rattle.flat_image.specs.Sheets.{Cell, Hole, IsSheet, flat}
 use Rattle.flat_image.specs.Frozen.{Frozen}
 use Rattle.flat_image.specs.CanonicalFiles.{stretches}
-use Rattle.flat_image.specs.LayerReading.{sheet_in, uuid_in, IsLayer}
-use Rattle.flat_image.specs.Stacks.{uppermost}
+use Rattle.flat_image.specs.LayerFiles.{IsHeadOf}
+use Rattle.flat_image.specs.LayerReading.{sheet_in, uuid_in, size_in}
+use Rattle.flat_image.specs.Stacks.{uppermost, AreRising}
 
 -- a sheet that says nothing
 abbrev pub holes : ℕ → List Cell
 holes n = replicate n Hole
+
+-- the sheet, with holes behind it up to n cells
+abbrev pub with_holes : ℕ → List Cell → List Cell
+with_holes n sheet = sheet ++ holes (n - length sheet)
 
 -- an image over these layers in which nothing was written
 abbrev pub fresh : ℕ → List (List ℕ) → Base
@@ -23,7 +29,11 @@ pending_of frozen = option_map (λ f. f.uuid) frozen
 
 -- the uuid of the uppermost file, or that of no layer
 abbrev pub top_uuid : List (List ℕ) → List ℕ
-top_uuid files = uppermost (map uuid_in files)
+top_uuid files = uppermost nil (map uuid_in files)
+
+-- the sectors of the uppermost file, or n where there is none
+abbrev pub top_size : ℕ → List (List ℕ) → ℕ
+top_size n files = uppermost n (map size_in files)
 
 -- the sheet of a commit in progress
 abbrev pub sheet_list : Option Frozen → List (List Cell)
@@ -38,9 +48,9 @@ sheets_of base = map sheet_in (base.lowers ++ base.done) ++ (sheet_list base.fro
 abbrev pub image_of : Base → List (List ℕ)
 image_of base = flat base.sectors (sheets_of base)
 
--- the file is that of some layer of n sectors
-abbrev pub IsLayerFile : ℕ → List ℕ → Type 0
-IsLayerFile n file = (uuid : List ℕ) × (sheet : List Cell) × IsLayer n uuid sheet file
+-- the file is that of some layer
+abbrev pub IsLayerFile : List ℕ → Type 0
+IsLayerFile file = (head : Head) × IsHeadOf file head
 
 -- the sheet may become a layer of n sectors with that uuid
 pub record IsFrozen (n : ℕ) (frozen : Frozen) : Type 0 where
@@ -48,11 +58,12 @@ pub record IsFrozen (n : ℕ) (frozen : Frozen) : Type 0 where
   pub named : frozen.uuid ≢ nil
   pub sheet_is : IsSheet n frozen.sheet
 
--- what an image may start from: layer files and sheets, all of its number of sectors
+-- what an image may start from: layer files whose sectors do not fall and are at most its own, and sheets of its number of cells
 pub record IsBase (base : Base) : Type 0 where
   pub top_is : IsSheet base.sectors base.top
   pub frozen_is : IfSome base.frozen (IsFrozen base.sectors)
-  pub layers : All (IsLayerFile base.sectors) (base.lowers ++ base.done)
+  pub layers : All IsLayerFile (base.lowers ++ base.done)
+  pub rising : AreRising 0 base.sectors (map size_in (base.lowers ++ base.done))
 
 -- the top has no more than two stretches for each row that it has used, and the frozen sheet no more than a full top
 pub record HasFewStretches (base : Base) : Type 0 where

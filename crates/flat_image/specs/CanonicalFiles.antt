@@ -1,5 +1,5 @@
 -- The canonical file of a sheet: which rows it has, in which order, and where its sectors stand.
-use Rattle.std.specs.Prelude.{ℕ, ◌+◌, ◌-◌, ◌*◌, ◌==◌, ◌&&◌, Bool, true, false, min, if◌then◌else◌, List, [], ◌∷◌, ◌++◌, length, map, replicate}
+use Rattle.std.specs.Prelude.{ℕ, ◌+◌, ◌-◌, ◌*◌, ◌==◌, ◌&&◌, Bool, true, false, min, nat_lt, if◌then◌else◌, List, [], ◌∷◌, ◌++◌, length, map, replicate}
 use Rattle.std.specs.Bool.{beq}
 use Rattle.std.specs.List.{concat, flat_map, range_with_len}
 use Rattle.sector_extent.specs.Rows.{rows_for}
@@ -66,10 +66,10 @@ sectors_of (Zero ∷ cells) = sectors_of cells
 abbrev pub canonical_index_at : List Cell → ℕ
 canonical_index_at sheet = 4096 + 512 * length (sectors_of sheet)
 
--- the head of a sheet's file
-abbrev pub canonical_head : List ℕ → List ℕ → List Cell → Head
-canonical_head uuid parent sheet = record {
-  version = 1;
+-- the head of a sheet's file, over a layer of that many sectors: version 2 where the sheet has more
+abbrev pub canonical_head : List ℕ → List ℕ → ℕ → List Cell → Head
+canonical_head uuid parent below sheet = record {
+  version = if nat_lt below (length sheet) then 2 else 1;
   kind = SealedHead;
   index_at = canonical_index_at sheet;
   rows = length (canonical_rows sheet);
@@ -92,9 +92,9 @@ file_with head sectors rows =
     ++ padding_after (head.index_at + 16 * head.rows)
     ++ raw_block (raw_of (record head { kind = SealedEnd }))
 
--- the file of a sheet, with this uuid and this parent
-abbrev pub file_of : List ℕ → List ℕ → List Cell → List ℕ
-file_of uuid parent sheet = file_with (canonical_head uuid parent sheet) (concat (sectors_of sheet)) (canonical_rows sheet)
+-- the file of a sheet, with this uuid and this parent, over a layer of that many sectors
+abbrev pub file_of : List ℕ → List ℕ → ℕ → List Cell → List ℕ
+file_of uuid parent below sheet = file_with (canonical_head uuid parent below sheet) (concat (sectors_of sheet)) (canonical_rows sheet)
 
 -- a file with this head and these rows, of which nothing else is known: its data are zeros
 abbrev pub blank_file : Head → List Row → List ℕ

@@ -7,6 +7,7 @@ use Rattle.flat_image.specs.Sectors.{put_at}
 use Rattle.flat_image.specs.CanonicalFiles.{Stretch, joined, stretches, canonical_rows, canonical_head, file_of}
 use Rattle.flat_image.specs.RowCells.{sheet_of}
 use Rattle.flat_image.specs.LayerFiles.{LayerFile}
+use Rattle.flat_image.specs.Stacks.{StandsOn}
 use Rattle.flat_image.specs.Stretches.{IsOf, AreStretches, AreLongest}
 
 -- the sheet may become a layer of n sectors with that uuid, over the layer with the other
@@ -18,8 +19,13 @@ pub record CanBeLayer (n : ℕ) (uuid parent : List ℕ) (sheet : List Cell) : T
   pub few : length (canonical_rows sheet) ≤ 2 ^ 24
 
 -- then its file is that of a layer with this sheet
-abbrev pub FileIsLayer : ℕ → List ℕ → List ℕ → List Cell → Type 0
-FileIsLayer n uuid parent sheet = CanBeLayer n uuid parent sheet → LayerFile (file_of uuid parent sheet) (canonical_head uuid parent sheet) sheet
+abbrev pub FileIsLayer : ℕ → List ℕ → List ℕ → ℕ → List Cell → Type 0
+FileIsLayer n uuid parent below sheet =
+    CanBeLayer n uuid parent sheet → LayerFile (file_of uuid parent below sheet) (canonical_head uuid parent below sheet) sheet
+
+-- over a layer of no more sectors its head may stand
+abbrev pub HeadStands : List ℕ → List ℕ → ℕ → List Cell → Type 0
+HeadStands uuid parent below sheet = below ≤ length sheet → StandsOn below (canonical_head uuid parent below sheet)
 
 -- the stretches of a sheet are its longest ones, and no others are
 pub record StretchesAreLongest (sheet : List Cell) : Type 0 where

@@ -7,12 +7,12 @@ use Rattle.flat_image.specs.Frozen.{Frozen}
 use Rattle.flat_image.specs.LayerReading.{sheet_in}
 use Rattle.flat_image.specs.Base.{IsBase, HasFewStretches}
 use Rattle.flat_image.specs.Entries.{entry}
-use Rattle.flat_image.specs.History.{History, after, committed, Proper}
+use Rattle.flat_image.specs.History.{History, size, after, committed, Proper}
 use Rattle.flat_image.specs.Left.{moves_layers}
 
--- the image of the lowers and of what is committed after a history, without the top
-abbrev pub committed_image : Base → History → List (List ℕ)
-committed_image base history = flat base.sectors (map sheet_in (base.lowers ++ committed base history))
+-- the image, of n sectors, of the lowers and of what is committed after a history, without the top
+abbrev pub committed_image : ℕ → Base → History → List (List ℕ)
+committed_image n base history = flat n (map sheet_in (base.lowers ++ committed base history))
 
 -- no Freeze and no Seal is in the history
 abbrev pub LeavesLayers : History → Type 0
@@ -23,11 +23,11 @@ abbrev pub CommitIsImage : Base → History → Type 0
 CommitIsImage base front =
     (freezer sealer : ℕ) (uuid : List ℕ) (between : History) → IsBase base → HasFewStretches base
     → Proper base (front ++ entry freezer (Freeze uuid) ∷ (between ++ entry sealer (Seal uuid) ∷ [])) → LeavesLayers between
-    → committed_image base (front ++ entry freezer (Freeze uuid) ∷ (between ++ entry sealer (Seal uuid) ∷ [])) ≡ after base front
+    → committed_image (size base front) base (front ++ entry freezer (Freeze uuid) ∷ (between ++ entry sealer (Seal uuid) ∷ [])) ≡ after base front
 
 -- and once a commit is sealed that was in progress at the beginning, they are the layers then and the frozen sheet
 abbrev pub OpenCommitIsImage : Base → Type 0
 OpenCommitIsImage base =
     (f : Frozen) (sealer : ℕ) (uuid : List ℕ) (between : History) → base.frozen ≡ Some f → IsBase base → HasFewStretches base
     → Proper base (between ++ entry sealer (Seal uuid) ∷ []) → LeavesLayers between
-    → committed_image base (between ++ entry sealer (Seal uuid) ∷ []) ≡ flat base.sectors (map sheet_in (base.lowers ++ base.done) ++ f.sheet ∷ [])
+    → committed_image base.sectors base (between ++ entry sealer (Seal uuid) ∷ []) ≡ flat base.sectors (map sheet_in (base.lowers ++ base.done) ++ f.sheet ∷ [])

@@ -1,5 +1,5 @@
 -- A sealed layer file: a header block, sectors of data, rows, padding, and the header again as a trailer.
-use Rattle.std.specs.Prelude.{◌≡◌, ℕ, ◌+◌, ◌-◌, ◌*◌, ◌/◌, ◌%◌, ◌^◌, ◌≤◌, List, length, take, drop, slice_set}
+use Rattle.std.specs.Prelude.{◌≡◌, ℕ, ◌+◌, ◌-◌, ◌*◌, ◌/◌, ◌%◌, ◌^◌, ◌≤◌, List, [], ◌∷◌, length, take, drop, slice_set}
 use Rattle.seg_mapping.specs.declared.Row.{Row}
 use Rattle.lsmt_header.specs.declared.head.Head.{Head}
 use Rattle.lsmt_header.specs.declared.head.Kind.TheVariants.{SealedHead}
@@ -38,3 +38,15 @@ pub record LayerFile (file : List ℕ) (head : Head) (sheet : List Cell) : Type 
   pub rows : List Row
   pub layer : LayerOf file head rows
   pub sheet_is : sheet ≡ sheet_of file head.sectors rows
+
+-- the file is that of a layer with this head
+pub record IsHeadOf (file : List ℕ) (head : Head) : Type 0 where
+  pub sheet : List Cell
+  pub layer : LayerFile file head sheet
+
+-- each file is that of a layer, with its head
+abbrev pub AreHeadsOf : List (List ℕ) → List Head → Type 0
+AreHeadsOf [] [] = Unit {0}
+AreHeadsOf [] (head ∷ heads) = ⊥
+AreHeadsOf (file ∷ files) [] = ⊥
+AreHeadsOf (file ∷ files) (head ∷ heads) = IsHeadOf file head × AreHeadsOf files heads

@@ -1,4 +1,4 @@
--- What the bytes of a layer file say: its uuid, and its sheet.
+-- What the bytes of a layer file say: its uuid, its number of sectors, and its sheet.
 use Rattle.std.specs.Prelude.{◌≡◌, ℕ, zero, suc, ◌+◌, ◌/◌, ◌%◌, ◌^◌, nat_eq, List, [], ◌∷◌, take, drop}
 use Rattle.std.specs.Int.{w64, from_le_bytes}
 use Rattle.seg_mapping.specs.declared.Row.{Row}
@@ -22,12 +22,15 @@ abbrev pub rows_in : List ℕ → ℕ → ℕ → List Row
 rows_in file at zero = []
 rows_in file at (suc count) = row_of (take 16 (drop at file)) ∷ rows_in file (at + 16) count
 
--- the sheet of the file, and its uuid
+-- the sheet of the file, its uuid, and its number of sectors
 unfoldable pub sheet_in : List ℕ → List Cell
 sheet_in file = let head = raw_head (take 4096 file) in sheet_of file head.sectors (rows_in file head.index_at head.rows)
 
 unfoldable pub uuid_in : List ℕ → List ℕ
 uuid_in file = (raw_head (take 4096 file)).uuid
+
+unfoldable pub size_in : List ℕ → ℕ
+size_in file = (raw_head (take 4096 file)).sectors
 
 -- the file is that of a layer of n sectors, with that uuid and that sheet
 pub record IsLayer (n : ℕ) (uuid : List ℕ) (sheet : List Cell) (file : List ℕ) : Type 0 where

@@ -1,9 +1,9 @@
 -- What a crash leaves of an image and its history.
 use Rattle.std.specs.Prelude.{◌≡◌, ℕ, ◌⊎◌, Bool, true, false, List, ◌∷◌, ◌++◌, All, Some, None}
 use Rattle.flat_image.specs.declared.act.Act.{Act}
-use Rattle.flat_image.specs.declared.act.Act.TheVariants.{Read, Write, Zero, Flush, Freeze, Seal, Fault}
+use Rattle.flat_image.specs.declared.act.Act.TheVariants.{Read, Write, Zero, Flush, Freeze, Seal, Grow, Fault}
 use Rattle.flat_image.specs.declared.act.Asked.{Asked}
-use Rattle.flat_image.specs.declared.act.Asked.TheVariants.{Nothing, Uuid}
+use Rattle.flat_image.specs.declared.act.Asked.TheVariants.{Nothing, Uuid, Sectors}
 use Rattle.flat_image.specs.declared.base.Base.{Base}
 use Rattle.flat_image.specs.Sheets.{Cell}
 use Rattle.flat_image.specs.Base.{holes, pending_of}
@@ -42,6 +42,7 @@ moves_layers (Zero at count) = false
 moves_layers Flush = false
 moves_layers (Freeze uuid) = true
 moves_layers (Seal uuid) = true
+moves_layers (Grow sectors) = false
 moves_layers (Fault asked) = false
 
 -- an act that is made of what the manifest names by then, so that no step that failed before it is to blame any more
@@ -52,9 +53,10 @@ ends_blame (Zero at count) = false
 ends_blame Flush = false
 ends_blame (Freeze uuid) = true
 ends_blame (Seal uuid) = true
+ends_blame (Grow sectors) = true
 ends_blame (Fault asked) = false
 
--- a step that was asked for this failed, and no freeze and no seal has come since
+-- a step that was asked for this failed, and no freeze, no seal and no grow has come since
 pub record Blamed (history : History) (asked : Asked) : Type 0 where
   pub front : History
   pub number : ℕ
@@ -62,14 +64,15 @@ pub record Blamed (history : History) (asked : Asked) : Type 0 where
   pub splits : history ≡ front ++ (entry number (Fault asked) ∷ rest)
   pub since : All (λ e. ends_blame e.act ≡ false) rest
 
--- the image as the failed step would have made it: frozen where nothing is pending, sealed where that uuid is
+-- the image as the failed step would have made it: frozen or grown where nothing is pending, sealed where that uuid is
 abbrev pub Advances : Base → Asked → Base → Type 0
 Advances s Nothing b = ⊥
 Advances s (Uuid uuid) b =
     ((pending_of s.frozen ≡ None) × (b ≡ step s (Freeze uuid))) ⊎ ((pending_of s.frozen ≡ Some uuid) × (b ≡ step s (Seal uuid)))
+Advances s (Sectors sectors) b = (pending_of s.frozen ≡ None) × (b ≡ step s (Grow sectors))
 
 -- a crash may leave b: what the history made, with the top of a beginning that has all that is kept, or that as a
--- failed freeze or seal would have made it
+-- failed freeze, seal or grow would have made it
 pub record Left (base : Base) (history : History) (b : Base) : Type 0 where
   pub front : History
   pub kept : Kept history front

@@ -1,5 +1,5 @@
 -- Images, sheets, and how a sheet is painted over an image.
-use Rattle.std.specs.Prelude.{◌≡◌, ℕ, zero, suc, ◌^◌, ◌≤◌, List, [], ◌∷◌, length, replicate, take, drop, All}
+use Rattle.std.specs.Prelude.{◌≡◌, ℕ, zero, suc, ◌-◌, ◌^◌, ◌≤◌, List, [], ◌∷◌, ◌++◌, length, replicate, take, drop, All}
 use Rattle.std.specs.List.{concat, fold}
 
 -- a sector of zeros
@@ -49,9 +49,13 @@ paint [] (cell ∷ cells) = painted zero_sector cell ∷ paint [] cells
 paint (sector ∷ sectors) [] = sector ∷ sectors
 paint (sector ∷ sectors) (cell ∷ cells) = painted sector cell ∷ paint sectors cells
 
--- the sheets painted over n sectors of zeros, the lowest first
+-- the image, with sectors of zeros behind it up to n sectors
+abbrev pub lengthened : ℕ → List (List ℕ) → List (List ℕ)
+lengthened n image = image ++ replicate (n - length image) zero_sector
+
+-- the sheets painted over the image of no sectors, the lowest first, and then zeros up to n sectors
 abbrev pub flat : ℕ → List (List Cell) → List (List ℕ)
-flat n sheets = fold paint (replicate n zero_sector) sheets
+flat n sheets = lengthened n (fold paint [] sheets)
 
 -- an image as bytes
 abbrev pub bytes_of : List (List ℕ) → List ℕ

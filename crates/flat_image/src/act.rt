@@ -14,15 +14,19 @@ pub enum Act {
     Freeze([u8; 16]),
     /// The layer with this uuid is done.
     Seal([u8; 16]),
+    /// The image has this many sectors from here on, more than before.
+    Grow(u64),
     /// A step failed.
     Fault(Asked),
 }
 
-/// What a failed step was asked for: the uuid where it was a freeze or a seal, else nothing.
+/// What a failed step was asked for: the uuid where it was a freeze or a seal, the sectors where it
+/// was a grow, else nothing.
 #[derive(Clone, Copy, Debug, PartialEq, Eq)]
 pub enum Asked {
     Nothing,
     Uuid([u8; 16]),
+    Sectors(u64),
 }
 
 // the act of a call that passes `Brand` is the one that the caller's proof picks

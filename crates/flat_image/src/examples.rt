@@ -1,5 +1,5 @@
 //! The definitions, computed on small histories.
-ghost use Rattle.flat_image.specs.Examples.{WritesAndCommit, FlushAndCrash, LanesOverLayer, FullTop, FaultsAndOrder};
+ghost use Rattle.flat_image.specs.Examples.{WritesAndCommit, FlushAndCrash, LanesOverLayer, FullTop, FaultsAndOrder, GrowOverLayer, ImageOverLayer, SizesAndOrder};
 
 fn writes_and_commit()
     ensures { WritesAndCommit }
@@ -21,6 +21,18 @@ fn faults_and_order()
     ensures { FaultsAndOrder }
 {}
 
+fn grow_and_commit()
+    ensures { GrowOverLayer }
+{}
+
+fn taller_image()
+    ensures { ImageOverLayer }
+{}
+
+fn sizes_and_order()
+    ensures { SizesAndOrder }
+{}
+
 #[test]
 fn definitions_compute() {
     writes_and_commit();
@@ -28,4 +40,7 @@ fn definitions_compute() {
     lanes_and_commit();
     full_top();
     faults_and_order();
+    grow_and_commit();
+    taller_image();
+    sizes_and_order();
 }

@@ -1,5 +1,5 @@
 -- One layer that is flattened.
-use Rattle.std.proofs.Common.{◌≡◌, ℕ, ◌^◌, ◌<◌, ◌≤◌, true, List, [], ◌∷◌, length, refl, sym, ◌∙◌, subst, arith, inl, inr}
+use Rattle.std.proofs.Common.{◌≡◌, ℕ, ◌^◌, ◌≤◌, true, List, [], ◌∷◌, length, refl, sym, ◌∙◌, subst, arith, inl, inr}
 use Rattle.std.specs.Prelude.{Option, Some, None, IfSome, Result, Ok, Err, IfErr, OnErr, ◌⊎◌}
 use Rattle.std.specs.Option.{option_map}
 use Rattle.std.specs.Io.KnownBytes.{Appends}
@@ -52,8 +52,7 @@ image_of : (list : List (List ℕ)) (layer : LayerIndex) → length list ≡ 1 �
     → IsImageOf list (told_flat layer.head.sectors list (layer ∷ []))
 image_of list layer one of =
     let told = told_one list layer one of in
-    let P : LayerIndex → Type 0 = λ other. other.head.sectors ≡ layer.head.sectors in
-    (layers_of list (layer ∷ []), told_layers list (layer ∷ []) told, sym (told_image layer.head.sectors list (layer ∷ []) told (All-cons P layer [] refl (All-nil P)) (omega arith)))
+    (layers_of list (layer ∷ []), told_layers list (layer ∷ []) told, sym (told_image layer.head.sectors list (layer ∷ []) told refl))
 
 -- its flat image was written, or a front of it
 pub one_image : (files : Option (List (List ℕ))) (count : ℕ) (layer : LayerIndex) (old new : Option (List ℕ)) → IfSome files (λ list. length list ≡ count) → count ≡ 1

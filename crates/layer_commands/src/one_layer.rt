@@ -24,7 +24,7 @@ fn flatten_one<B: Sink, S: Shelf>(alloc: Global, shelf: &mut S, out: &mut B) -> 
     ensures sink_cause { Charges B.faults out.old out.new (IsErrOf result Refusal.SinkFault) }
 {
     let layer = read_one(alloc, shelf, 0)?;
-    let sectors = layer.head().sectors;
+    let sectors = layer.sectors();
     write_flat(alloc, shelf, slice::from_ref(&layer), sectors, out)
 }
 

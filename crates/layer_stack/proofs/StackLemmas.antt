@@ -1,20 +1,21 @@
 -- Stacks that grow by one head, and what a fault says of a stack.
-use Rattle.std.proofs.Common.{◌≡◌, ◌≢◌, ℕ, ◌+◌, ◌<◌, ◌≤◌, List, [], ◌∷◌, ◌++◌, length, take, drop, get_or, refl, sym, ap, ◌∙◌, subst, arith, All}
+use Rattle.std.proofs.Common.{◌≡◌, ◌≢◌, ℕ, ◌+◌, ◌<◌, ◌≤◌, List, [], ◌∷◌, ◌++◌, length, map, take, drop, get_or, refl, sym, ap, ◌∙◌, subst, arith, All}
 use Rattle.std.proofs.lemmas.List.Elements.{All-push, All-cons, All-nil, All-head, All-tail, All-get_or}
 use Rattle.std.proofs.lemmas.List.{take-append-drop, take_more, drop_more}
 use Rattle.std.proofs.lemmas.Option.{slice_get_within, get_or_from_slice_get}
 use Rattle.lsmt_header.specs.declared.head.Head.{Head}
-use Rattle.flat_image.specs.Stacks.{AreStacked, AreUnlike, Legal}
+use Rattle.flat_image.specs.Stacks.{uppermost, StandsOn, AreSized, AreSizedOver, AreStacked, AreUnlike, Legal}
 use Rattle.lsmt_header.specs.Blocks.{nil}
 use Rattle.layer_stack.specs.declared.fault.StackFault.{StackFault}
 use Rattle.layer_stack.specs.declared.fault.StackFault.TheVariants.{Empty, TooMany, SizeDiffers, ParentDiffers, UuidTwice}
-use Rattle.layer_stack.specs.Faults.{top_uuid, HasSize, HasParent, HasOwnUuid, SharesUuid, IsFreeOver, IsFaultOver, AreFree, IsLowestFault, IsStackFault}
+use Rattle.layer_stack.specs.Faults.{top_uuid, top_sectors, HasSize, HasParent, HasOwnUuid, SharesUuid, IsFreeOver, IsFaultOver, AreFree, IsLowestFault, IsStackFault}
 
 -- ---- one head more
 
-pub top_uuid-push : (uuid : List ℕ) (below : List Head) (head : Head) → top_uuid uuid (below ++ head ∷ []) ≡ head.uuid
-top_uuid-push uuid [] head = refl
-top_uuid-push uuid (other ∷ below) head = top_uuid-push other.uuid below head
+pub uppermost-push : {A : Type 0} (field : Head → A) (none : A) (below : List Head) (head : Head)
+    → uppermost none (map field (below ++ head ∷ [])) ≡ field head
+uppermost-push field none [] head = refl
+uppermost-push field none (other ∷ below) head = uppermost-push field (field other) below head
 
 AreStacked-push : (uuid : List ℕ) (below : List Head) (head : Head) → AreStacked uuid below → head.parent ≡ top_uuid uuid below → AreStacked uuid (below ++ head ∷ [])
 AreStacked-push uuid [] head stacked parent = (parent, tt)
@@ -28,14 +29,13 @@ AreUnlike-push (lowest ∷ below) head unlike own =
     let apart : head.uuid ≢ lowest.uuid = λ same. All-head P lowest below own (sym same) in
     (All-push Q below head unlike.0 apart, AreUnlike-push below head unlike.1 (All-tail P lowest below own))
 
-sizes-push : (below : List Head) (head : Head) → (n : ℕ) × All (λ head. head.sectors ≡ n) below → HasSize below head
-    → (n : ℕ) × All (λ head. head.sectors ≡ n) (below ++ head ∷ [])
-sizes-push [] head sizes same =
-    let P : Head → Type 0 = λ other. other.sectors ≡ head.sectors in
-    (head.sectors, All-cons P head [] refl (All-nil P))
-sizes-push (lowest ∷ below) head (n, sizes) same =
-    let P : Head → Type 0 = λ other. other.sectors ≡ n in
-    (n, All-push P (lowest ∷ below) head sizes (same ∙ All-head P lowest below sizes))
+AreSized-push : (n : ℕ) (below : List Head) (head : Head) → AreSized n below → StandsOn (top_sectors n below) head → AreSized n (below ++ head ∷ [])
+AreSized-push n [] head sized stands = (stands, tt)
+AreSized-push n (other ∷ below) head sized stands = (sized.0, AreSized-push other.sectors below head sized.1 stands)
+
+sizes-push : (below : List Head) (head : Head) → AreSizedOver below → HasSize below head → AreSizedOver (below ++ head ∷ [])
+sizes-push [] head sizes size = tt
+sizes-push (lowest ∷ below) head sizes size = AreSized-push lowest.sectors below head sizes size
 
 pub AreFree-push : (below : List Head) (head : Head) → AreFree below → IsFreeOver below head → AreFree (below ++ head ∷ [])
 AreFree-push below head free over = record {
@@ -45,7 +45,7 @@ AreFree-push below head free over = record {
 }
 
 pub AreFree-none : AreFree []
-AreFree-none = record { sizes = (0, All-nil (λ head. head.sectors ≡ 0)); stacked = tt; unlike = tt }
+AreFree-none = record { sizes = tt; stacked = tt; unlike = tt }
 
 pub Legal-from_free : (heads : List Head) → 1 ≤ length heads → length heads ≤ 255 → AreFree heads → Legal heads
 Legal-from_free heads some few free =
@@ -57,15 +57,13 @@ parent_within : (uuid : List ℕ) (below : List Head) (head : Head) (above : Lis
 parent_within uuid [] head above stacked = stacked.0
 parent_within uuid (other ∷ below) head above stacked = parent_within other.uuid below head above stacked.1
 
-size_within : (n : ℕ) (below : List Head) (head : Head) (above : List Head) → All (λ head. head.sectors ≡ n) (below ++ head ∷ above) → head.sectors ≡ n
-size_within n [] head above sizes = All-head (λ head. head.sectors ≡ n) head above sizes
-size_within n (lowest ∷ below) head above sizes =
-    size_within n below head above (All-tail (λ head. head.sectors ≡ n) lowest (below ++ head ∷ above) sizes)
+AreSized-within : (n : ℕ) (below : List Head) (head : Head) (above : List Head) → AreSized n (below ++ head ∷ above) → StandsOn (top_sectors n below) head
+AreSized-within n [] head above sized = sized.0
+AreSized-within n (other ∷ below) head above sized = AreSized-within other.sectors below head above sized.1
 
-HasSize-within : (n : ℕ) (below : List Head) (head : Head) (above : List Head) → All (λ head. head.sectors ≡ n) (below ++ head ∷ above) → HasSize below head
-HasSize-within n [] head above sizes = tt
-HasSize-within n (lowest ∷ below) head above sizes =
-    size_within n (lowest ∷ below) head above sizes ∙ sym (All-head (λ head. head.sectors ≡ n) lowest (below ++ head ∷ above) sizes)
+HasSize-within : (below : List Head) (head : Head) (above : List Head) → AreSizedOver (below ++ head ∷ above) → HasSize below head
+HasSize-within [] head above sizes = tt
+HasSize-within (lowest ∷ below) head above sizes = AreSized-within lowest.sectors below head above sizes
 
 own_within : (Q : Head → Type 0) (below : List Head) (head : Head) (above : List Head) → All Q (below ++ head ∷ above) → Q head
 own_within Q [] head above all = All-head Q head above all
@@ -94,7 +92,7 @@ no_fault below head (UuidTwice first number) size parent own f = not_shared belo
 lowest_not_legal : (heads : List Head) (fault : StackFault) → IsLowestFault heads fault → Legal heads → ⊥
 lowest_not_legal heads fault lowest legal =
     let whole : Legal (lowest.below ++ lowest.head ∷ lowest.above) = subst Legal lowest.split legal in
-    no_fault lowest.below lowest.head fault (HasSize-within whole.sizes.0 lowest.below lowest.head lowest.above whole.sizes.1)
+    no_fault lowest.below lowest.head fault (HasSize-within lowest.below lowest.head lowest.above whole.sizes)
     (parent_within nil lowest.below lowest.head lowest.above whole.stacked)
     (HasOwnUuid-within lowest.below lowest.head lowest.above whole.unlike) lowest.is_fault
 

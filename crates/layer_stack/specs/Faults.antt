@@ -1,19 +1,22 @@
 -- Which fault of a stack is the first one.
 use Rattle.std.specs.Prelude.{◌≡◌, ◌≢◌, ℕ, ◌<◌, ◌≤◌, List, [], ◌∷◌, ◌++◌, length, map, All, Some, slice_get}
 use Rattle.lsmt_header.specs.declared.head.Head.{Head}
-use Rattle.flat_image.specs.Stacks.{AreStacked, AreUnlike, uppermost}
+use Rattle.flat_image.specs.Stacks.{uppermost, StandsOn, AreSizedOver, AreStacked, AreUnlike}
 use Rattle.lsmt_header.specs.Blocks.{nil}
 use Rattle.layer_stack.specs.declared.fault.StackFault.{StackFault}
 use Rattle.layer_stack.specs.declared.fault.StackFault.TheVariants.{Empty, TooMany, SizeDiffers, ParentDiffers, UuidTwice}
 
--- the uuid of the uppermost of these heads, or the given one where there is none
+-- the uuid and the sectors of the uppermost of these heads, or the given ones where there is none
 abbrev pub top_uuid : List ℕ → List Head → List ℕ
-top_uuid uuid heads = uppermost (uuid ∷ map (λ head. head.uuid) heads)
+top_uuid uuid heads = uppermost uuid (map (λ head. head.uuid) heads)
 
--- the head has the sectors of the lowest of the heads below it
+abbrev pub top_sectors : ℕ → List Head → ℕ
+top_sectors n heads = uppermost n (map (λ head. head.sectors) heads)
+
+-- the head may stand over the uppermost of the heads below it, if there is one
 abbrev pub HasSize : List Head → Head → Type 0
 HasSize [] head = Unit {0}
-HasSize (lowest ∷ above) head = head.sectors ≡ lowest.sectors
+HasSize (lowest ∷ above) head = StandsOn (top_sectors lowest.sectors above) head
 
 -- the parent of the head is the uuid of the one below it, or nil where there is none
 abbrev pub HasParent : List Head → Head → Type 0
@@ -44,7 +47,7 @@ IsFaultOver below head (TooMany count) = ⊥
 
 -- each of the heads has none of the faults over those below it
 pub record AreFree (heads : List Head) : Type 0 where
-  pub sizes : (n : ℕ) × All (λ head. head.sectors ≡ n) heads
+  pub sizes : AreSizedOver heads
   pub stacked : AreStacked nil heads
   pub unlike : AreUnlike heads
 

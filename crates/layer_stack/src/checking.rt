@@ -1,8 +1,8 @@
 //! Looks at the heads of layers one after another, the lowest first.
-ghost use Rattle.std.specs.Prelude.{◌≡◌, ◌^◌, ◌<◌, ◌≤◌, ◌↔◌, length, IsOk, IfErr, IfNone, IfSome, OnOk};
-ghost use Rattle.flat_image.specs.Stacks.{Legal};
+ghost use Rattle.std.specs.Prelude.{◌≡◌, ◌^◌, ◌<◌, ◌≤◌, ◌↔◌, length, IsOk, IsTrue, IfErr, IfNone, IfSome, OnOk};
+ghost use Rattle.flat_image.specs.Stacks.{Legal, StandsOn};
 ghost use Rattle.lsmt_header.specs.Blocks.{nil};
-ghost use Rattle.layer_stack.specs.Faults.{HasOwnUuid, IsFaultOver, IsFreeOver, IsStackFault, SharesUuid, top_uuid};
+ghost use Rattle.layer_stack.specs.Faults.{HasOwnUuid, IsFaultOver, IsFreeOver, IsStackFault, SharesUuid, top_sectors, top_uuid};
 
 use crate::fault::StackFault;
 use lsmt_header::Head;
@@ -26,24 +26,26 @@ pub fn check(heads: &[Head]) -> Result<(), StackFault>
         return Err(StackFault::TooMany(heads.len() as u32));
     }
     let mut parent = NIL_UUID;
+    let mut lower = 0;
     for (number, head) in heads.iter().enumerate() {
-        check_over(&heads[..number], &parent, head)?;
+        check_over(&heads[..number], &parent, lower, head)?;
         parent = head.uuid;
+        lower = head.sectors;
     }
     Ok(())
 }
 
-/// The first fault of a head over the heads below it. `parent` is the uuid of the uppermost of these.
-fn check_over(below: &[Head], parent: &[u8; 16], head: &Head) -> Result<(), StackFault>
+/// The first fault of a head over the heads below it. `parent` is the uuid of the uppermost of these,
+/// and `lower` its sectors.
+fn check_over(below: &[Head], parent: &[u8; 16], lower: u64, head: &Head) -> Result<(), StackFault>
     requires few { length below.now ≤ 255 }
     requires parent { parent.now ≡ top_uuid nil below.now }
+    requires lower { lower ≡ top_sectors 0 below.now }
     ensures free { OnOk result (IsFreeOver below.now head.now) }
     ensures fault { IfErr result (IsFaultOver below.now head.now) }
 {
     let number = below.len() as u32;
-    if let Some(lowest) = below.first()
-        && head.sectors != lowest.sectors
-    {
+    if !below.is_empty() && !stands_on(lower, head) {
         return Err(StackFault::SizeDiffers(number));
     }
     if head.parent != *parent {
@@ -52,6 +54,17 @@ fn check_over(below: &[Head], parent: &[u8; 16], head: &Head) -> Result<(), Stac
     match number_with_uuid(below, head) {
         Some(first) => Err(StackFault::UuidTwice(first, number)),
         None => Ok(()),
+    }
+}
+
+/// Whether the layer with this head may stand over one of so many sectors.
+fn stands_on(lower: u64, head: &Head) -> bool
+    ensures { IsTrue result ↔ StandsOn lower head.now }
+{
+    match head.version {
+        1 => head.sectors == lower,
+        2 => head.sectors >= lower,
+        _ => true,
     }
 }
 

@@ -5,7 +5,7 @@ pub enum StackFault {
     Empty,
     /// There are more than 255 layers; their number.
     TooMany(u32),
-    /// The layer of that number has other sectors than the lowest.
+    /// The layer of that number has other sectors than the one below, or, with version 2, fewer.
     SizeDiffers(u32),
     /// The parent of the layer of that number is not the uuid of the one below. The lowest one's is nil.
     ParentDiffers(u32),

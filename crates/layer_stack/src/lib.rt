@@ -1,4 +1,4 @@
-//! Whether layers form a stack: each layer names the one below it, all are of one size, and no uuid
+//! Whether layers form a stack: each layer names the one below it, none is smaller than the one below, and no uuid
 //! stands twice.
 #![tactic(auto)]
 

@@ -64,6 +64,48 @@ fn the_first_fault_is_answered(rt: HostRuntime) -> Result<(), Fail> {
     Ok(())
 }
 
+/// The same with a version for each.
+fn versions_of(
+    alloc: Global,
+    tag: Tag,
+    layers: &[(u32, (u8, u8, u64))],
+) -> Result<Vec<Head>, AllocError> {
+    let mut heads = Vec::with_capacity(alloc, layers.len())?;
+    for (version, layer) in layers {
+        heads.push(Head {
+            version: *version,
+            ..head_of(tag, *layer)
+        })?;
+    }
+    Ok(heads)
+}
+
+#[test]
+fn a_layer_of_version_2_may_have_more_sectors(rt: HostRuntime) -> Result<(), Fail> {
+    let tag = Tag::new(&[]).ok_or("tag")?;
+    let cases: [(&[(u32, (u8, u8, u64))], Result<(), StackFault>); 4] = [
+        (&[(1, (1, 0, 4)), (2, (2, 1, 6)), (1, (3, 2, 6))], Ok(())),
+        (
+            &[(1, (1, 0, 4)), (1, (2, 1, 6))],
+            Err(StackFault::SizeDiffers(1)),
+        ),
+        (
+            &[(1, (1, 0, 4)), (2, (2, 1, 6)), (1, (3, 2, 4))],
+            Err(StackFault::SizeDiffers(2)),
+        ),
+        (
+            &[(1, (1, 0, 4)), (2, (2, 1, 3))],
+            Err(StackFault::SizeDiffers(1)),
+        ),
+    ];
+    for (layers, answer) in cases {
+        let heads = versions_of(rt.alloc(), tag, layers)?;
+        assert!(rt; heads.len() < 4);
+        assert_eq!(rt; check(&heads), answer, "{layers:?}");
+    }
+    Ok(())
+}
+
 #[test]
 fn a_stack_has_at_most_255_layers(rt: HostRuntime) -> Result<(), Fail> {
     let tag = Tag::new(&[]).ok_or("tag")?;

@@ -1,5 +1,5 @@
 -- The fields of a block stand at their places, and a block is that of one head.
-use Rattle.std.proofs.Common.{subst, ◌≡◌, ℕ, ◌+◌, ◌^◌, ◌<◌, List, [], ◌∷◌, ◌++◌, length, take, drop, refl, sym, ap, ◌∙◌, arith}
+use Rattle.std.proofs.Common.{subst, ◌≡◌, ℕ, ◌+◌, ◌^◌, ◌<◌, List, [], ◌∷◌, ◌++◌, length, take, drop, refl, sym, ap, ◌∙◌, inl, inr, arith}
 use Rattle.std.specs.List.{concat}
 use Rattle.std.specs.Prelude.{slice_set}
 use Rattle.std.specs.Int.{w32, w64, to_le_bytes, from_le_bytes}
@@ -9,7 +9,7 @@ use Rattle.std.proofs.lemmas.Nat.{from_le_bytes-to_le_bytes_4, from_le_bytes-to_
 use Rattle.lsmt_header.specs.declared.head.Head.{Head}
 use Rattle.lsmt_header.specs.declared.head.Kind.{Kind}
 use Rattle.lsmt_header.specs.declared.head.Kind.TheVariants.{SealedHead, SealedEnd, TopBytes, TopRows}
-use Rattle.lsmt_header.specs.Blocks.{RawHead, fields_of, raw_block, part, raw_head, IsSized, flags_of, IsSealed, Fits, IsValid, raw_of, BlockOf}
+use Rattle.lsmt_header.specs.Blocks.{RawHead, fields_of, raw_block, part, raw_head, IsSized, flags_of, IsSealed, IsVersion, Fits, IsValid, raw_of, BlockOf}
 use Rattle.lsmt_header.proofs.TagLemmas.{length-padded, padded-same}
 
 total : List (List ℕ) → ℕ
@@ -48,11 +48,19 @@ flags_of-below SealedEnd = omega arith
 flags_of-below TopBytes = omega arith
 flags_of-below TopRows = omega arith
 
+-- a version fits in its four bytes
+version_fits : (kind : Kind) (version : ℕ) → IsVersion kind version → version < 2 ^ 32
+version_fits kind version is =
+    elim is [
+      | inl one ↦ omega (arith, one)
+      | inr two ↦ omega (arith, two.1)
+    ]
+
 -- the fields of a head have their sizes
 pub raw_of-sized : (head : Head) → IsValid head → Fits head → IsSized (raw_of head)
 raw_of-sized head valid fits = record {
   magic = refl;
-  version = omega (arith, valid.version);
+  version = version_fits head.kind head.version valid.version;
   flags = flags_of-below head.kind;
   index_at = fits.index_at;
   rows = fits.rows;
@@ -110,6 +118,6 @@ end_block bytes head same of =
     let front : head ≡ record head { kind = SealedHead } = λ i. record head { kind = same i } in
     record {
       spelled = ap (λ (x : List ℕ). slice_set x 12 6) (of.spelled ∙ ap (λ (h : Head). raw_block (raw_of h)) front) ∙ end_spelled head;
-      valid = record { version = of.valid.version; size = of.valid.size; named = λ sealed. of.valid.named (subst IsSealed (sym same) tt) };
+      valid = record { version = subst (λ (kind : Kind). IsVersion kind head.version) same of.valid.version; size = of.valid.size; named = λ sealed. of.valid.named (subst IsSealed (sym same) tt) };
       fits = record { index_at = of.fits.index_at; rows = of.fits.rows; uuid = of.fits.uuid; parent = of.fits.parent; tag = of.fits.tag };
     }

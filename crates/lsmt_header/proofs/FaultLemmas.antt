@@ -6,7 +6,7 @@ use Rattle.lsmt_header.specs.declared.head.Kind.{Kind}
 use Rattle.lsmt_header.specs.declared.head.Kind.TheVariants.{SealedHead, SealedEnd, TopBytes, TopRows}
 use Rattle.lsmt_header.specs.declared.head.HeadFault.{HeadFault}
 use Rattle.lsmt_header.specs.declared.head.HeadFault.TheVariants.{BadMagic, BadVersion, Compressed, BadFlags, BadSize, NilUuid, BadTag, Unclean}
-use Rattle.lsmt_header.specs.Blocks.{RawHead, raw_block, IsSized, flags_of, IsSealed, IsSize, Fits, IsValid, raw_of, BlockOf}
+use Rattle.lsmt_header.specs.Blocks.{RawHead, raw_block, IsSized, flags_of, IsSealed, IsVersion, IsSize, Fits, IsValid, raw_of, BlockOf}
 use Rattle.lsmt_header.specs.Faults.{IsClean, IsFault}
 
 -- no kind's flags say compressed
@@ -18,7 +18,7 @@ flags_of-plain TopRows = refl
 
 pub no_fault : (kind : Kind) (head : Head) (fault : HeadFault) → head.kind ≡ kind → IsValid head → Fits head → IsFault kind (raw_of head) fault → ⊥
 no_fault kind head BadMagic same valid fits h = h refl
-no_fault kind head (BadVersion version) same valid fits h = h.2 (h.1 ∙ valid.version)
+no_fault kind head (BadVersion version) same valid fits h = h.2 (subst (IsVersion kind) (sym h.1) (subst (λ (k : Kind). IsVersion k head.version) same valid.version))
 no_fault kind head Compressed same valid fits h = h.1 (flags_of-plain head.kind)
 no_fault kind head (BadFlags flags) same valid fits h = h.2 (h.1 ∙ ap flags_of same)
 no_fault kind head (BadSize sectors) same valid fits h = h.2 (subst IsSize (sym h.1) valid.size)

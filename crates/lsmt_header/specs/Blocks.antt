@@ -1,5 +1,5 @@
 -- The block of a head: 4,096 bytes with ten fields. Numbers have their lowest byte first.
-use Rattle.std.specs.Prelude.{◌≡◌, ◌≢◌, ℕ, ◌<◌, ◌≤◌, ◌^◌, List, [], ◌∷◌, length, take, drop, replicate, codes}
+use Rattle.std.specs.Prelude.{◌≡◌, ◌≢◌, ℕ, ◌<◌, ◌≤◌, ◌^◌, ◌⊎◌, List, [], ◌∷◌, length, take, drop, replicate, codes}
 use Rattle.std.specs.List.{concat}
 use Rattle.std.specs.Int.{w32, w64, to_le_bytes, from_le_bytes}
 use Rattle.lsmt_header.specs.declared.head.Head.{Head}
@@ -95,9 +95,9 @@ IsSize sectors = (1 ≤ sectors) × (sectors ≤ 2 ^ 31)
 abbrev pub nil : List ℕ
 nil = replicate {A = ℕ} 16 0
 
--- the version that a block of this kind may have
+-- the version that a block of this kind may have: 1, or in a sealed layer also 2
 abbrev pub IsVersion : Kind → ℕ → Type 0
-IsVersion kind version = version ≡ 1
+IsVersion kind version = (version ≡ 1) ⊎ (IsSealed kind × (version ≡ 2))
 
 -- what a head has to be
 pub record IsValid (head : Head) : Type 0 where

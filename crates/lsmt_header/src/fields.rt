@@ -58,7 +58,7 @@ pub fn tag_of(kind: Kind, fields: &Fields<'_>) -> Result<Tag, HeadFault>
     if fields.magic != MAGIC {
         return Err(HeadFault::BadMagic);
     }
-    if fields.version != 1 {
+    if !kind.has_version(fields.version) {
         return Err(HeadFault::BadVersion(fields.version));
     }
     if fields.flags & COMPRESSED != 0 {

@@ -15,7 +15,8 @@ pub enum Kind {
 /// What a block says.
 #[derive(Clone, Copy, Debug, PartialEq, Eq)]
 pub struct Head {
-    /// The version of the format, 1.
+    /// The version of the format: 1, or 2 in a sealed layer that may have more sectors than the layer
+    /// below.
     pub version: u32,
     pub kind: Kind,
     /// Where the rows begin, in bytes from the front of the file.
@@ -36,7 +37,7 @@ pub struct Head {
 pub enum HeadFault {
     /// It does not begin with the magic.
     BadMagic,
-    /// It has this version.
+    /// It has this version, which is neither 1 nor 2, or is 2 and the layer is a top.
     BadVersion(u32),
     /// Its flags say that the layer is compressed.
     Compressed,
@@ -54,7 +55,7 @@ pub enum HeadFault {
 }
 
 impl Kind {
-    ghost use Rattle.lsmt_header.specs.Blocks.{flags_of, IsSealed, nil};
+    ghost use Rattle.lsmt_header.specs.Blocks.{flags_of, IsSealed, IsVersion, nil};
 
     /// The flags of the block.
     pub fn flags(self) -> u32
@@ -76,6 +77,13 @@ impl Kind {
             Kind::SealedHead | Kind::SealedEnd => true,
             Kind::TopBytes | Kind::TopRows => false,
         }
+    }
+
+    // A block of this kind may have this version.
+    pub(crate) fn has_version(self, version: u32) -> bool
+        ensures { IsTrue result ↔ IsVersion self version }
+    {
+        version == 1 || version == 2 && self.is_sealed()
     }
 
     // A head of this kind has a uuid of its own, and this is none.
@@ -100,6 +108,6 @@ impl Head {
     pub fn is_valid(&self) -> bool
         ensures { IsTrue result ↔ IsValid self.now }
     {
-        self.version == 1 && is_size(self.sectors) && !self.kind.lacks(&self.uuid)
+        self.kind.has_version(self.version) && is_size(self.sectors) && !self.kind.lacks(&self.uuid)
     }
 }

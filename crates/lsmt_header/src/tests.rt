@@ -67,7 +67,7 @@ fn first_faults(rt: HostRuntime) -> Result<(), Fail> {
     let table: [(&[(usize, u8)], HeadFault); 16] = [
         (&[(0, 0x50)], HeadFault::BadMagic),
         (&[(7, 0x32), (8, 2)], HeadFault::BadMagic),
-        (&[(8, 2)], HeadFault::BadVersion(2)),
+        (&[(8, 3)], HeadFault::BadVersion(3)),
         (&[(9, 1), (12, 15)], HeadFault::BadVersion(257)),
         (&[(12, 15)], HeadFault::Compressed),
         (&[(12, 9), (32, 0)], HeadFault::Compressed),
@@ -99,6 +99,14 @@ fn first_faults(rt: HostRuntime) -> Result<(), Fail> {
     assert_eq!(rt;
         decode_block(&nameless, Kind::SealedHead),
         Err(HeadFault::NilUuid)
+    );
+    let mut taller = block;
+    taller[8] = 2;
+    assert!(rt; decode_block(&taller, Kind::SealedHead).is_ok());
+    taller[12] = 5;
+    assert_eq!(rt;
+        decode_block(&taller, Kind::TopBytes),
+        Err(HeadFault::BadVersion(2))
     );
     nameless[12] = 5;
     assert_eq!(rt;

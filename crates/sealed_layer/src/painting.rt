@@ -13,8 +13,8 @@ use sector_extent::SECTOR;
 use seg_mapping::Row;
 
 /// Paints a layer, file `k` of the shelf, over the sectors in `out`, which are those of the image
-/// from sector `at` on. It reads the shelf once for each row that meets them. After a failure `out`
-/// may hold anything.
+/// from sector `at` on. Past its own sectors the layer says nothing. It reads the shelf once for each
+/// row that meets them. After a failure `out` may hold anything.
 pub fn paint_part<S: Shelf>(
     shelf: &mut S,
     k: u32,
@@ -24,7 +24,7 @@ pub fn paint_part<S: Shelf>(
 ) -> Result<(), ShelfFailed>
     requires file { k < S.count shelf.old }
     requires whole { length out.old % 512 ≡ 0 }
-    requires within { at + length out.old / 512 ≤ layer.now.head.sectors }
+    requires within { at + length out.old / 512 ≤ 2 ^ 31 }
     requires told { ForSome (S.files shelf.old) (λ files. LayerOf (file_at files k) layer.now.head layer.now.rows) }
     ensures painted { OnOk result
         (IfSome (S.files shelf.old) (λ files. Paints (file_at files k) layer.now.rows at out.old out.new)) }

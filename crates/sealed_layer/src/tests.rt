@@ -1,7 +1,7 @@
 use super::*;
 use layer_shelf::{MemShelf, Shelf, ShelfFailed};
 use lsmt_header::{Head, HeadFault, Kind, Tag, encode_block};
-use sector_extent::{Bytes, CallList, FileTexts};
+use sector_extent::{Bytes, CallList, Extent, FileTexts};
 use seg_mapping::{Row, RowFault, encode};
 use std::alloc::{AllocError, Global};
 use std::process::Abort;
@@ -118,7 +118,7 @@ fn painted(
     let mut out = sectors_of(alloc, old)?;
     assert_eq!(rt; out.len() % 512, 0);
     assert!(rt; at <= 4);
-    assert!(rt; at + (out.len() / 512) as u64 <= layer.head().sectors);
+    assert!(rt; at + (out.len() / 512) as u64 <= 1 << 31);
     paint_part(shelf, k, &layer, at, out.as_mut_slice())?;
     Ok(out)
 }
@@ -147,7 +147,8 @@ fn a_layer_is_read(rt: HostRuntime) -> Result<(), Fail> {
     Ok(())
 }
 
-// Files 0 to 3: one row of data, no rows over it, one zeroed row over it, and three rows.
+// Files 0 to 4: one row of data, no rows over it, one zeroed row over it, three rows, and a layer of
+// six sectors over the first, with one row at its end.
 fn painting_shelf(rt: &impl Abort, alloc: Global) -> Result<MemShelf, Fail> {
     let base = head_of(Tag::new(b"").ok_or("tag")?, 4_096, 0);
     let upper = Head {
@@ -173,11 +174,21 @@ fn painting_shelf(rt: &impl Abort, alloc: Global) -> Result<MemShelf, Fail> {
     };
     let rows = [filled(0, 1, 10), zeroed(1, 1), filled(2, 2, 8)];
     let fourth = layer_file(rt, alloc, &three, &[0x61, 0x62, 0x63], &rows, 8_192)?;
+    let tall = Head {
+        version: 2,
+        sectors: 6,
+        index_at: 4_608,
+        rows: 1,
+        ..upper
+    };
+    let fifth = layer_file(rt, alloc, &tall, &[0x64], &[filled(5, 1, 8)], 8_192)?;
+    assert_eq!(rt; fifth.len(), 12_288);
     let mut files = Vec::new(alloc);
     files.push(Bytes::from_vec(first_layer(rt, alloc)?))?;
     files.push(Bytes::from_vec(second))?;
     files.push(Bytes::from_vec(third))?;
     files.push(Bytes::from_vec(fourth))?;
+    files.push(Bytes::from_vec(fifth))?;
     Ok(MemShelf::new(
         FileTexts::from_vec(files),
         CallList::from_vec(Vec::new(alloc)),
@@ -189,7 +200,7 @@ fn painting_shelf(rt: &impl Abort, alloc: Global) -> Result<MemShelf, Fail> {
 #[test]
 fn layers_are_painted_on_a_part(rt: HostRuntime) -> Result<(), Fail> {
     let mut shelf = painting_shelf(&rt, rt.alloc())?;
-    let table: [(u32, u64, &[u8], &[u8]); 16] = [
+    let table: [(u32, u64, &[u8], &[u8]); 20] = [
         (0, 0, &[0, 0, 0, 0], &[0, 0x61, 0x62, 0]),
         (0, 0, &[1, 2, 3, 4], &[1, 0x61, 0x62, 4]),
         (0, 0, &[1], &[1]),
@@ -207,6 +218,16 @@ fn layers_are_painted_on_a_part(rt: HostRuntime) -> Result<(), Fail> {
         (3, 1, &[2, 3], &[0, 0x61]),
         (3, 1, &[2], &[0]),
         (3, 3, &[4], &[0x62]),
+        // Sectors past the layer's own are holes.
+        (0, 2, &[3, 4, 5, 6], &[0x62, 4, 5, 6]),
+        (0, 4, &[5], &[5]),
+        (3, 3, &[4, 5], &[0x62, 5]),
+        (
+            4,
+            0,
+            &[0, 0x61, 0x62, 0, 0, 0],
+            &[0, 0x61, 0x62, 0, 0, 0x64],
+        ),
     ];
     for (k, at, old, new) in table {
         let out = painted(&rt, rt.alloc(), &mut shelf, k, at, old)?;
@@ -359,7 +380,7 @@ fn headers_with_one_byte_raised(rt: HostRuntime) -> Result<(), Fail> {
     });
     let table = [
         (0, 8, head(HeadFault::BadMagic), head(HeadFault::BadMagic)),
-        (8, 9, version(2), version(2)),
+        (8, 9, differs, Ok(())),
         (9, 10, version(257), version(257)),
         (10, 11, version(65_537), version(65_537)),
         (11, 12, version(16_777_217), version(16_777_217)),
@@ -474,5 +495,63 @@ fn painting_on_a_shelf_that_fails(rt: HostRuntime) -> Result<(), Fail> {
     );
     assert_eq!(rt; paint_part(&mut shelf, 0, &layer, 1, &mut out), Ok(()));
     assert_eq!(rt; out[..4], [0x61, 0x61, 0x61, 0x61][..]);
+    Ok(())
+}
+
+// The rows of three extents in rising order, from place 8 on.
+fn rows_of(rt: &impl Abort, alloc: Global, runs: &[(u64, u64, bool); 3]) -> Result<Vec<Row>, Fail> {
+    let (at, count, first) = runs[0];
+    let low = Extent::new(at, count).ok_or("extent")?;
+    let (at, count, second) = runs[1];
+    let middle = Extent::new(at, count).ok_or("extent")?;
+    let (at, count, third) = runs[2];
+    let high = Extent::new(at, count).ok_or("extent")?;
+    assert!(rt; low.count > 0 && middle.count > 0 && high.count > 0);
+    assert!(rt; low.end() <= middle.at && middle.end() <= high.at);
+    let mut rows = CanonRows::new(alloc, 8);
+    rows.push(low, first)?;
+    rows.push(middle, second)?;
+    rows.push(high, third)?;
+    Ok(rows.finish())
+}
+
+// Extents that touch and are of one kind are one run, and a run is cut from its start.
+#[test]
+fn extents_become_rows(rt: HostRuntime) -> Result<(), Fail> {
+    let table: [([(u64, u64, bool); 3], &[Row]); 5] = [
+        (
+            [(1, 2, false), (3, 1, false), (5, 1, false)],
+            &[filled(1, 3, 8), filled(5, 1, 11)],
+        ),
+        (
+            [(0, 2, false), (2, 3, true), (5, 4, false)],
+            &[filled(0, 2, 8), zeroed(2, 3), filled(5, 4, 10)],
+        ),
+        (
+            [(7, 1, true), (8, 16_383, true), (20_000, 1, true)],
+            &[zeroed(7, 16_383), zeroed(16_390, 1), zeroed(20_000, 1)],
+        ),
+        (
+            [
+                (0, 16_383, false),
+                (16_383, 16_384, false),
+                (40_000, 1, true),
+            ],
+            &[
+                filled(0, 16_383, 8),
+                filled(16_383, 16_383, 16_391),
+                filled(32_766, 1, 32_774),
+                zeroed(40_000, 1),
+            ],
+        ),
+        (
+            [(0, 1, true), (5, 1, false), ((1 << 31) - 1, 1, false)],
+            &[zeroed(0, 1), filled(5, 1, 8), filled((1 << 31) - 1, 1, 9)],
+        ),
+    ];
+    for (runs, wanted) in table {
+        let rows = rows_of(&rt, rt.alloc(), &runs)?;
+        assert_eq!(rt; rows.as_slice(), wanted, "of {runs:?}");
+    }
     Ok(())
 }

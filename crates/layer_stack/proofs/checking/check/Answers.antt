@@ -2,12 +2,12 @@ use Rattle.std.proofs.Common.{◌+◌, ◌<◌, ◌≤◌, length, List, take, d
 use Rattle.std.proofs.lemmas.Result.{err_from_is_err_and}
 use Rattle.lsmt_header.specs.declared.head.Head.{Head}
 use Rattle.lsmt_header.specs.Blocks.{nil}
-use Rattle.layer_stack.specs.Faults.{AreFree, top_uuid}
-use Rattle.layer_stack.proofs.StackLemmas.{AreFree-none, AreFree-push, top_uuid-push, fault_not_legal, fault_from_over, split_at, take_one_more}
+use Rattle.layer_stack.specs.Faults.{AreFree, top_uuid, top_sectors}
+use Rattle.layer_stack.proofs.StackLemmas.{AreFree-none, AreFree-push, uppermost-push, fault_not_legal, fault_from_over, split_at, take_one_more}
 use Rattle.layer_stack.proofs.checking.check.Goals as goal
 
 pub loop-number-init : goal.loop-number-init
-loop-number-init c = record { free = AreFree-none; parent_is = refl }
+loop-number-init c = record { free = AreFree-none; lower_is = refl; parent_is = refl }
 
 pub loop-number-preserved : goal.loop-number-preserved
 loop-number-preserved c =
@@ -19,7 +19,8 @@ loop-number-preserved c =
     let over = c.in_ok-check_over.ensures.free in
     record {
       free = subst AreFree (sym more) (AreFree-push (take number heads) head c.loop-number.invariant.free over);
-      parent_is = sym (ap (top_uuid nil) more ∙ top_uuid-push nil (take number heads) head);
+      lower_is = sym (ap (top_sectors 0) more ∙ uppermost-push (λ (h : Head). h.sectors) 0 (take number heads) head);
+      parent_is = sym (ap (top_uuid nil) more ∙ uppermost-push (λ (h : Head). h.uuid) nil (take number heads) head);
     }
 
 pub returns-in_err-check_over-clause-legal : goal.returns-in_err-check_over-clause-legal
