@@ -61,7 +61,7 @@ impl<D: Disk> Stands for Image<D> {
 
 impl<D: Disk> Image<D> {
     /// Makes an image of so many sectors over lower layers, in which nothing was written. They form a
-    /// stack of that size, or there are none. A disk whose manifest holds a mark already is refused, and
+    /// stack of no more sectors, or there are none. A disk whose manifest holds a mark already is refused, and
     /// nothing of it is changed. Where it held none, the files may hold anything after `Failed`.
     pub fn create(
         alloc: Global,
@@ -91,7 +91,7 @@ impl<D: Disk> Image<D> {
             → Quiet (D.state disk) (D.state refusal.0)) }
         ensures unbegun { IfErr result (λ refusal. refusal.1 ≡ faults.Memory
             → Quiet (D.state disk) (D.state refusal.0)) }
-        // what was written of the manifest ends with zeros
+        // what was written of the manifest has format 2
         ensures manifest { IfOk result (λ image. IsNewManifest sectors (seen D.Disk image)) }
         // a manifest comes only when the files of the top are there
         ensures last { MatchResult result

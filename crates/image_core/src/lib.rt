@@ -26,6 +26,8 @@ pub use steps::{Numbered, Reply, ReplyList, Step, StepList, run_steps};
 pub use whole::WholeFault;
 
 #[cfg(test)]
+mod old_tests;
+#[cfg(test)]
 mod steps_tests;
 #[cfg(test)]
 mod table_tests;

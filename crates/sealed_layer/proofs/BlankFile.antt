@@ -13,7 +13,7 @@ use Rattle.flat_image.proofs.CanonicalRows.{IsRow}
 use Rattle.sealed_layer.specs.Layers.{IsTagged, IsLayerIndex}
 
 -- rows with fields of their sizes are those that are spelled
-rows-are : (rows : List Row) → All Fits rows → All IsTagged rows → All IsRow rows
+pub rows-are : (rows : List Row) → All Fits rows → All IsTagged rows → All IsRow rows
 rows-are [] fits tags = All-nil IsRow
 rows-are (row ∷ rows) fits tags =
     All-cons IsRow row rows (record { spelled = refl; fits = All-head Fits row rows fits; tag = All-head IsTagged row rows tags })

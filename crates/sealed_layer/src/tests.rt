@@ -1,7 +1,7 @@
 use super::*;
 use layer_shelf::{MemShelf, Shelf, ShelfFailed};
 use lsmt_header::{Head, HeadFault, Kind, Tag, encode_block};
-use sector_extent::{Bytes, CallList, FileTexts};
+use sector_extent::{Bytes, CallList, Extent, FileTexts};
 use seg_mapping::{Row, RowFault, encode};
 use std::alloc::{AllocError, Global};
 use std::process::Abort;
@@ -495,5 +495,63 @@ fn painting_on_a_shelf_that_fails(rt: HostRuntime) -> Result<(), Fail> {
     );
     assert_eq!(rt; paint_part(&mut shelf, 0, &layer, 1, &mut out), Ok(()));
     assert_eq!(rt; out[..4], [0x61, 0x61, 0x61, 0x61][..]);
+    Ok(())
+}
+
+// The rows of three extents in rising order, from place 8 on.
+fn rows_of(rt: &impl Abort, alloc: Global, runs: &[(u64, u64, bool); 3]) -> Result<Vec<Row>, Fail> {
+    let (at, count, first) = runs[0];
+    let low = Extent::new(at, count).ok_or("extent")?;
+    let (at, count, second) = runs[1];
+    let middle = Extent::new(at, count).ok_or("extent")?;
+    let (at, count, third) = runs[2];
+    let high = Extent::new(at, count).ok_or("extent")?;
+    assert!(rt; low.count > 0 && middle.count > 0 && high.count > 0);
+    assert!(rt; low.end() <= middle.at && middle.end() <= high.at);
+    let mut rows = CanonRows::new(alloc, 8);
+    rows.push(low, first)?;
+    rows.push(middle, second)?;
+    rows.push(high, third)?;
+    Ok(rows.finish())
+}
+
+// Extents that touch and are of one kind are one run, and a run is cut from its start.
+#[test]
+fn extents_become_rows(rt: HostRuntime) -> Result<(), Fail> {
+    let table: [([(u64, u64, bool); 3], &[Row]); 5] = [
+        (
+            [(1, 2, false), (3, 1, false), (5, 1, false)],
+            &[filled(1, 3, 8), filled(5, 1, 11)],
+        ),
+        (
+            [(0, 2, false), (2, 3, true), (5, 4, false)],
+            &[filled(0, 2, 8), zeroed(2, 3), filled(5, 4, 10)],
+        ),
+        (
+            [(7, 1, true), (8, 16_383, true), (20_000, 1, true)],
+            &[zeroed(7, 16_383), zeroed(16_390, 1), zeroed(20_000, 1)],
+        ),
+        (
+            [
+                (0, 16_383, false),
+                (16_383, 16_384, false),
+                (40_000, 1, true),
+            ],
+            &[
+                filled(0, 16_383, 8),
+                filled(16_383, 16_383, 16_391),
+                filled(32_766, 1, 32_774),
+                zeroed(40_000, 1),
+            ],
+        ),
+        (
+            [(0, 1, true), (5, 1, false), ((1 << 31) - 1, 1, false)],
+            &[zeroed(0, 1), filled(5, 1, 8), filled((1 << 31) - 1, 1, 9)],
+        ),
+    ];
+    for (runs, wanted) in table {
+        let rows = rows_of(&rt, rt.alloc(), &runs)?;
+        assert_eq!(rt; rows.as_slice(), wanted, "of {runs:?}");
+    }
     Ok(())
 }
