@@ -118,8 +118,9 @@ fn layer_of_runs(rt: &impl Abort, alloc: Global) -> Result<Vec<u8>, Fail> {
         ..head
     };
     assert!(rt; head.is_valid() && end.is_valid());
+    let trailer = encode_block(&end);
     let mut file = encode_block(&head).to_vec(alloc)?;
-    for sector in 0..302 {
+    for sector in 0..302_u32 {
         file.extend_from_slice(&[(sector % 251) as u8 + 1; 512])?;
     }
     for row in [long, zeroed, short] {
@@ -127,7 +128,7 @@ fn layer_of_runs(rt: &impl Abort, alloc: Global) -> Result<Vec<u8>, Fail> {
         file.extend_from_slice(&encode(&row))?;
     }
     file.resize(159_744, 0)?;
-    file.extend_from_slice(&encode_block(&end))?;
+    file.extend_from_slice(&trailer)?;
     Ok(file)
 }
 
