@@ -247,7 +247,8 @@ impl<D: Disk> Image<D> {
         if sectors <= own {
             return Err(GrowFault::NotLarger(own));
         }
-        match self.parts.top.flush(&mut self.disk) {
+        let top = &mut self.parts.top;
+        match top.flush(&mut self.disk) {
             Ok(()) => {}
             Err(DiskFailed) => {
                 self.parts.steps += 1;

@@ -28,6 +28,8 @@ pub use steps::{Numbered, Reply, ReplyList, Step, StepList, run_steps};
 pub use whole::WholeFault;
 
 #[cfg(test)]
+mod grow_tests;
+#[cfg(test)]
 mod old_tests;
 #[cfg(test)]
 mod steps_tests;

@@ -41,10 +41,10 @@ const PARTS: [(u32, u64, [u8; 16]); 15] = [
 
 // The bytes of the eight sectors: the first one and those behind the rows were never written, and the
 // third one is zeros again.
-const SECTORS: [u8; 8] = [0, 0x61, 0, 0, 0, 0x63, 0, 0];
+pub(crate) const SECTORS: [u8; 8] = [0, 0x61, 0, 0, 0, 0x63, 0, 0];
 
 // A disk with these files.
-fn old_disk(alloc: Global) -> Result<MemDisk, Fail> {
+pub(crate) fn old_disk(alloc: Global) -> Result<MemDisk, Fail> {
     let mut disk = MemDisk::new(alloc);
     for (at, byte) in [(4_096, 0x61), (4_608, 0x62), (5_120, 0x63)] {
         disk.write_at(1, at, &[byte; 512])?;
