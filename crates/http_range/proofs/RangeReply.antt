@@ -209,7 +209,7 @@ judged_good first last total order within small =
     let length_is : trim_ows (32 ∷ decimal n) ≡ decimal n = value_length (decimal n) (digits n wide_n) (some n wide_n) in
     let range_is : trim_ows (32 ∷ v) ≡ v = value_range (decimal first) (decimal last) (decimal total) (digits total wide_t) (some total wide_t) in
     let same : judged 206 ((codes "Content-Length", trim_ows (32 ∷ decimal n)) ∷ (codes "Content-Range", trim_ows (32 ∷ v)) ∷ []) first last
-        ≡ ranged (range_of v) (number (decimal n)) first last =
+    ≡ ranged (range_of v) (number (decimal n)) first last =
     (λ i. ranged (range_of (range_is i)) (number (length_is i)) first last) in
     same
     ∙ (λ i. ranged (reads_range first last total (omega arith) (omega arith) small i) (number-decimal n (omega arith) i) first last)
@@ -269,15 +269,19 @@ judged_other first m last total t small_a small_m small_t good = elim (nat_eq m 
   where
     n : ℕ
     n = m + 1 - first
+
     v : List ℕ
     v = range_text (decimal first) (decimal m) (decimal total)
+
     wide_t : total < 2 ^ 64
     wide_t = omega arith
+
     ranges : nat_eq m last ≡ false → judged_head (reply_head first m total) first last ≡ Err OtherRange
     ranges other =
         (λ i. ranged (range_of (value_range (decimal first) (decimal m) (decimal total) (digits total wide_t) (some total wide_t) i)) (number (trim_ows (32 ∷ decimal n))) first last)
         ∙ (λ i. ranged (reads_range first m total small_a small_m small_t i) (number (trim_ows (32 ∷ decimal n))) first last)
         ∙ cond-false _ _ _ (ap (λ b. (first == first && b) && nat_lt last total) other ∙ ap (λ b. b && nat_lt last total) (and_last (first == first)))
+
     no_good : judged_head (reply_head first m total) first last ≡ Err OtherRange → judged_head (reply_head first m total) first last ≡ Ok t → ⊥
     no_good bad good = let clash : Ok t ≡ Err OtherRange = sym good ∙ bad in cc
 

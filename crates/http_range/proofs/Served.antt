@@ -69,8 +69,7 @@ asks_served blobs a c held out more x total bytes before serves asked there smal
           let none : more ++ front.0 ≡ [] = append_cancel_left well.reply (more ++ front.0) []
           (whole ∙ append-nil (range_reply bytes x.first m) ∙ sym is.all ∙ sym (append-nil well.reply)) in
           let more_none : more ≡ [] = front_nil more front.0 none in
-          let got_reply : well.got ≡ range_reply bytes x.first m = got_is ∙ ap (λ k. well.reply ++ k) more_none ∙ append-nil well.reply ∙ is.all in
-          (
+          let got_reply : well.got ≡ range_reply bytes x.first m = got_is ∙ ap (λ k. well.reply ++ k) more_none ∙ append-nil well.reply ∙ is.all in (
             record {
               total_is = is.total_is;
               within = omega (arith, is.range, begins);
