@@ -141,7 +141,7 @@ fn heads_good_and_bad(rt: HostRuntime) -> Result<(), Fail> {
             bad(206, ReplyReason::Chunked),
         ),
         (
-            b"HTTP/1.1 206 P\r\nContent-Range: bytes 65536-131071/200000\r\nContent-Range: bytes 65536-131071/200000\r\nContent-Length: 65536\r\n\r\n",
+            b"HTTP/1.1 206 P\r\nContent-Range: bytes 65536-131071/200000\r\nContent-Range: x\r\n\r\n",
             bad(206, ReplyReason::NoRange),
         ),
         (
