@@ -6,3 +6,6 @@ mod reader;
 
 pub use headline::headline_law;
 pub use reader::Reader;
+
+#[cfg(test)]
+mod tests;

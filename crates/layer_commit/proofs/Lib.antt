@@ -1,0 +1,9 @@
+pub mod LayLaws
+pub mod FileLaws
+pub mod SealLaws
+pub mod RowLaws
+pub mod SourceLaws
+pub mod WalkLaws
+pub mod GatherLaws
+pub mod ExtendLaws
+pub mod BeginLaws
