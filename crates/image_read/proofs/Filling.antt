@@ -8,7 +8,7 @@ use Rattle.sector_extent.specs.declared.extent.Extent.{Extent}
 use Rattle.flat_image.specs.declared.base.Base.{Base}
 use Rattle.flat_image.specs.Sheets.{Cell, Hole, Zero, Filled, IsSector}
 use Rattle.flat_image.specs.RowCells.{sector_at}
-use Rattle.flat_image.specs.History.{History, now, after, reply, committed}
+use Rattle.flat_image.specs.History.{History, now, size, after, reply, committed}
 use Rattle.flat_image.specs.declared.act.Act.{Act}
 use Rattle.flat_image.specs.declared.act.Act.TheVariants.{Read}
 use Rattle.flat_image.specs.declared.port_fault.PortFault.{PortFault}
@@ -32,9 +32,9 @@ hole-or (Filled sector) = inr (λ e. cc)
 
 -- what the tops had, with the gaps filled from the layers' files, is the image's part
 pub planned-reply : (base : Base) (history : History) (s : SnapshotView) (at count : ℕ) (old mid new : List ℕ) (gaps : List Extent)
-    → IsPlanOf (now base history).sectors base history at count old mid → AreGaps (IsGap (now base history)) at (at + count) gaps → ReadsBelow base history s
+    → IsPlanOf (size base history) base history at count old mid → AreGaps (IsGap (now base history)) at (at + count) gaps → ReadsBelow base history s
     → AreFilled (sectors_by (base.lowers ++ committed base history) (cells_of s.index)) at gaps mid new
-    → at + count ≤ base.sectors → length new ≡ 512 * count → new ≡ reply base history at count
+    → at + count ≤ size base history → length new ≡ 512 * count → new ≡ reply base history at count
 planned-reply base history s at count old mid new gaps plan are below filled within long =
     let image : List (List ℕ) = after base history in
     let b = now base history in
@@ -71,10 +71,10 @@ module _ (tells : Bool) (lock : Lock Base) (old new : Place Act) (before after :
 
   -- the read is done, with bytes that are the image's where all is told
   pub reads-filled : (told : Bool) (e : Extent) (bytes mid out : List ℕ) (gaps : List Extent) (s : SnapshotView) → Plans told (P old before) (P new before) e bytes mid gaps s
-      → e.at + e.count ≤ lock.base.sectors → length out ≡ 512 * e.count
+      → length out ≡ 512 * e.count
       → (IsTrue tells → IsTrue told × AreFilled (sectors_by lock.base.lowers (cells_of s.index)) e.at gaps mid out)
       → Reads (P old before) (P new after) e.at e.count out
-  reads-filled told e bytes mid out gaps s plan within long filled = record {
+  reads-filled told e bytes mid out gaps s plan long filled = record {
     notes = notes-later (Read e.at e.count ∷ []) plan.notes;
     before = plan.before;
     behind = [];
@@ -83,7 +83,7 @@ module _ (tells : Bool) (lock : Lock Base) (old new : Place Act) (before after :
         let h : History = old.seen ++ plan.before in
         let none : lock.base.lowers ++ committed lock.base h ≡ lock.base.lowers = ap (λ (l : List (List ℕ)). lock.base.lowers ++ l) plan.below.none_done ∙ append-nil lock.base.lowers in
         planned-reply lock.base h s e.at e.count bytes mid out gaps (plan.image (filled all).0) plan.gaps_are plan.below
-        (subst (λ (files : List (List ℕ)). AreFilled (sectors_by files (cells_of s.index)) e.at gaps mid out) (sym none) (filled all).1) within long;
+        (subst (λ (files : List (List ℕ)). AreFilled (sectors_by files (cells_of s.index)) e.at gaps mid out) (sym none) (filled all).1) plan.within long;
   }
 
   -- the shelf failed

@@ -6,11 +6,11 @@ use Rattle.flat_image.specs.Sectors.{sector_count}
 use Rattle.flat_image.specs.Ports.{HasRoomFor, IsOverFor}
 use Rattle.flat_image.specs.declared.base.Base.{Base}
 use Rattle.flat_image.specs.History.{History, now, Proper, IsOver, HasRoom, used_rows, used_sectors}
-use Rattle.flat_image.proofs.HistoryLaws.{now-sectors}
+use Rattle.flat_image.proofs.HistoryLaws.{size-rises}
 
 -- what lies in the image as it was at the start lies in it as it is
 pub within_size : (base : Base) (history : History) (n end : ℕ) → Proper base history → n ≡ (now base history).sectors → end ≤ base.sectors → end ≤ n
-within_size base history n end proper is within = let same = now-sectors base history in omega (arith, is, same, within)
+within_size base history n end proper is within = let rises = size-rises base history proper in omega (arith, is, rises, within)
 
 -- not over is in
 pub in_room : (rows filled : ℕ) → (IsOver rows filled → ⊥) → HasRoom rows filled

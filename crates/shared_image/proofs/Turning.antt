@@ -6,7 +6,7 @@ use Rattle.flat_image.specs.declared.act.Asked.TheVariants.{Nothing}
 use Rattle.flat_image.specs.declared.base.Base.{Base}
 use Rattle.flat_image.specs.declared.stands.Entry.{Entry}
 use Rattle.flat_image.specs.Entries.{entry, calls_by}
-use Rattle.flat_image.specs.History.{History, now, fault_count, used_rows, used_sectors}
+use Rattle.flat_image.specs.History.{History, now, size, fault_count, used_rows, used_sectors}
 use Rattle.flat_image.specs.Ports.{PortState, IsWorn, Notes, NotesLast, HasRoomFor, IsOverFor, ChangeFails, Flushes}
 use Rattle.flat_image.specs.declared.port_fault.PortFault.TheVariants.{Full, Memory, Failed}
 use Rattle.sector_extent.specs.declared.extent.Extent.{Extent}
@@ -140,15 +140,16 @@ module _ (tells : Bool) (lock : Lock Base) (shelf : ℕ) (old mid : Place Act) (
   -- a plan that was made
   pub planned_turn : (new : Place Act) (told : Bool) (n : ℕ) (e : Extent) (bytes out : List ℕ) (gaps : List Extent) (s : SnapshotView)
       → new ≡ place mid.lock mid.number (mid.seen ++ entry mid.number (Read e.at e.count) ∷ []) false → lock.first + length mid.seen < 2 ^ 62
-      → n ≡ (now lock.base mid.seen).sectors → (IsTrue told → IsPlanOf n lock.base mid.seen e.at e.count bytes out)
+      → n ≡ size lock.base mid.seen → e.at + e.count ≤ n → (IsTrue told → IsPlanOf n lock.base mid.seen e.at e.count bytes out)
       → AreGaps (IsGap (now lock.base mid.seen)) e.at (e.at + e.count) gaps → ReadsBelow lock.base mid.seen s
       → Plans told (P old) (P new) e bytes out gaps s
-  planned_turn new told n e bytes out gaps s is room size image are below = record {
+  planned_turn new told n e bytes out gaps s is room same within image are below = record {
     notes = noted new (Read e.at e.count) is room;
     before = later.seen.rest;
     seen = seen_last new (Read e.at e.count) is;
-    image = λ t. subst (λ (l : History). IsPlanOf (now lock.base l).sectors lock.base l e.at e.count bytes out) later.seen.is
-        (subst (λ (m : ℕ). IsPlanOf m lock.base mid.seen e.at e.count bytes out) size (image t));
+    image = λ t. subst (λ (l : History). IsPlanOf (size lock.base l) lock.base l e.at e.count bytes out) later.seen.is
+        (subst (λ (m : ℕ). IsPlanOf m lock.base mid.seen e.at e.count bytes out) same (image t));
+    within = subst (λ (l : History). e.at + e.count ≤ size lock.base l) later.seen.is (omega (arith, within, same));
     gaps_are = subst (λ (l : History). AreGaps (IsGap (now lock.base l)) e.at (e.at + e.count) gaps) later.seen.is are;
     below = subst (λ (l : History). ReadsBelow lock.base l s) later.seen.is below;
   }

@@ -1,5 +1,5 @@
 -- What one turn of a seat of an image notes and answers.
-use Rattle.std.specs.Prelude.{◌≡◌, ℕ, ◌+◌, ◌<◌, Bool, IsTrue, false, List, [], ◌∷◌, ◌++◌, length}
+use Rattle.std.specs.Prelude.{◌≡◌, ℕ, ◌+◌, ◌<◌, ◌≤◌, Bool, IsTrue, false, List, [], ◌∷◌, ◌++◌, length}
 use Rattle.atomic_table.specs.Seated.{TableId}
 use Rattle.sector_extent.specs.declared.extent.Extent.{Extent}
 use Rattle.flat_image.specs.declared.act.Act.{Act}
@@ -9,7 +9,7 @@ use Rattle.flat_image.specs.declared.base.Base.{Base}
 use Rattle.flat_image.specs.declared.port_fault.PortFault.{PortFault}
 use Rattle.flat_image.specs.declared.port_fault.PortFault.TheVariants.{Worn, Full, Memory, Failed}
 use Rattle.flat_image.specs.Entries.{entry, calls_by}
-use Rattle.flat_image.specs.History.{History, now, fault_count}
+use Rattle.flat_image.specs.History.{History, now, size, fault_count}
 use Rattle.flat_image.specs.Ports.{PortState, IsWorn, Notes}
 use Rattle.top_writer.specs.Gaps.{AreGaps}
 use Rattle.turn_lock.specs.Locks.{Lock, Place}
@@ -57,7 +57,8 @@ pub record Plans (told : Bool) (old new : PortState) (e : Extent) (bytes out : L
   pub notes : Notes old new (Read e.at e.count ∷ [])
   pub before : History
   pub seen : new.seen ≡ (old.seen ++ before) ++ entry old.number (Read e.at e.count) ∷ []
-  pub image : IsTrue told → IsPlanOf (now old.base (old.seen ++ before)).sectors old.base (old.seen ++ before) e.at e.count bytes out
+  pub image : IsTrue told → IsPlanOf (size old.base (old.seen ++ before)) old.base (old.seen ++ before) e.at e.count bytes out
+  pub within : e.at + e.count ≤ size old.base (old.seen ++ before)
   pub gaps_are : AreGaps (IsGap (now old.base (old.seen ++ before))) e.at (e.at + e.count) gaps
   pub below : ReadsBelow old.base (old.seen ++ before) s
 

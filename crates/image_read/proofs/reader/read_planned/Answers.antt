@@ -22,7 +22,7 @@ pub returns-in-Ok-fill-clause-read : goal.returns-in-Ok-fill-clause-read
 returns-in-Ok-fill-clause-read g c =
     let s = arc_value c.in-Ok.snapshot in
     reads-filled (g.D.Disk.tells && is_some (g.S.Shelf.files c.args.shelf.now)) c.args.image.now c.args.seat.now c.plan.new.seat (g.S.Shelf.faults c.args.shelf.now) (g.S.Shelf.faults c.fill.new.source) (let same = c.in-Ok-fill.ensures.reads in omega (arith, same)) g.D.Disk.tells c.args.extent c.args.out.now c.plan.new.out c.fill.new.out
-    c.plan.new.gaps s (c.in-Ok.ensures.plan (g.D.Disk.tells && is_some (g.S.Shelf.files c.args.shelf.now)) (g.S.Shelf.faults c.args.shelf.now)) c.requires.within (c.fill.auto.out ∙ (c.plan.auto.out ∙ c.requires.size))
+    c.plan.new.gaps s (c.in-Ok.ensures.plan (g.D.Disk.tells && is_some (g.S.Shelf.files c.args.shelf.now)) (g.S.Shelf.faults c.args.shelf.now)) (c.fill.auto.out ∙ (c.plan.auto.out ∙ c.requires.size))
     (filled-all g.D.Disk.tells (g.S.Shelf.files c.args.shelf.now) c.args.image.now.base.lowers s c.args.extent.at c.plan.new.gaps c.plan.new.out c.fill.new.out c.requires.told
     (rw (c.deref.ensures, c.as_slice.ensures) at c.in-Ok-fill.ensures.filled))
 

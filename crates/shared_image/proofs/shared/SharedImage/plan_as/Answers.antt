@@ -32,6 +32,7 @@ returns-in-Ok-plan-clause-plan g c tells shelf =
     let s = c.standing_law.ensures base seen stood in
     rw (← c.self.view_is) (planned_turn tells c.self.inside.turn shelf c.args.seat.now c.hold.new.seat c.in-Ok.ensures.later c.note.new.seat g.D.Disk.tells _ c.args.extent c.args.out.now c.plan.new.out c.plan.new.gaps
     (arc_value c.in-Ok-plan.snapshot) (rw c.requires.act at c.note.ensures) c.in-Ok.ensures.ok.2 s.view.sectors
+    (within_size base seen _ _ s.proper s.view.sectors (rw (← c.self.view_is) at c.requires.within))
     (λ told. c.in-Ok-plan.ensures.image told base seen stood) (c.in-Ok-plan.ensures.gaps base seen stood)
     (c.below_law.ensures base seen (arc_value c.in-Ok-plan.snapshot) stood c.in-Ok-plan.ensures.snapshot))
 
