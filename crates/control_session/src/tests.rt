@@ -8,6 +8,21 @@ use std::test::Fail;
 
 const FIVE_LINES: &str = "status\nwarm 0\nwarm 1\ncommit x\nquit\n";
 
+// The first number of the history in memory is 2^62 - 510.
+const FIVE_ANSWERS: &str = "status sectors 4 layers 1 entries 4611686018427387394 pending none
+warmed 0 1
+refused no layer
+refused line
+bye
+";
+
+const COMMITTED: &str = "committed 22222222-2222-2222-2222-222222222222
+status sectors 4 layers 2 entries 4611686018427387396 pending none
+";
+
+const LONGEST: &str = "status sectors 18446744073709551615 layers 4294967295 \
+    entries 18446744073709551615 pending 22222222-2222-2222-2222-222222222222\n";
+
 fn calls(alloc: Global, failing: &[u64]) -> Result<CallList, AllocError> {
     Ok(CallList::from_vec(Vec::from_slice(alloc, failing)?))
 }
@@ -33,14 +48,10 @@ fn run(alloc: Global, input: &[u8], reads: &[u64], writes: &[u64]) -> Result<Ran
 #[test]
 fn each_line_has_its_answer(rt: HostRuntime) -> Result<(), Fail> {
     let cases = [
-        (
-            FIVE_LINES,
-            "status sectors 4 layers 1 entries 4611686018427387394 pending none\nwarmed 0 1\nrefused no layer\nrefused line\nbye\n",
-            ControlEnd::Quit,
-        ),
+        (FIVE_LINES, FIVE_ANSWERS, ControlEnd::Quit),
         (
             "commit 22222222222222222222222222222222\nstatus\n",
-            "committed 22222222-2222-2222-2222-222222222222\nstatus sectors 4 layers 2 entries 4611686018427387396 pending none\n",
+            COMMITTED,
             ControlEnd::Ended,
         ),
         ("warm 4294967296", "refused no layer\n", ControlEnd::Ended),
@@ -154,10 +165,7 @@ fn each_answer_has_its_text(rt: HostRuntime) -> Result<(), Fail> {
         entries: u64::MAX,
         pending: Some([0x22; 16]),
     };
-    assert_eq!(rt;
-        status_text(longest).as_str(),
-        "status sectors 18446744073709551615 layers 4294967295 entries 18446744073709551615 pending 22222222-2222-2222-2222-222222222222\n"
-    );
+    assert_eq!(rt; status_text(longest).as_str(), LONGEST);
     Ok(())
 }
 
