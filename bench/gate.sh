@@ -3,7 +3,10 @@
 # for its own proof, for its tests, and for its must-fail edits. Every second it reads /proc for the prover's processes, so what
 # lives for less than a second is not counted. The output of the run goes to standard error.
 cd "$(dirname "$0")/.." || exit 1
-[ $# -gt 0 ] || set -- ci --anew
+if [ $# -eq 0 ]; then
+    # a kit whose rt keeps what passed takes --anew; every other one begins from nothing
+    if rt help 2>&1 | grep -q -- --anew; then set -- ci --anew; else set -- ci; fi
+fi
 exec python3 - "$@" <<'END'
 import os, subprocess, sys, time
 

@@ -6,3 +6,5 @@ pub mod Arriving
 pub mod Parting
 pub mod Answering
 pub mod Fetches
+pub mod RangeReply
+pub mod Served

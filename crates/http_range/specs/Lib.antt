@@ -1,7 +1,9 @@
 pub mod Requests
 pub mod Links
+pub mod RangeReplies
 pub mod Replies
 pub mod Fields
 pub mod Heads
 pub mod InMemory
 pub mod Fetching
+pub mod Serving

@@ -1,9 +1,11 @@
 //! Fetches ranges over a link, one after the other.
-ghost use Rattle.std.specs.Prelude.{◌≡◌, ◌+◌, ◌-◌, ◌^◌, ◌<◌, ◌≤◌, ◌⊎◌, ◌&&◌, [], Bool, true, false, is_ok, is_err, length, take, IfOk, IfErr, MatchResult, Ok, Err};
+ghost use Rattle.std.specs.Prelude.{◌≡◌, ℕ, ◌+◌, ◌-◌, ◌^◌, ◌<◌, ◌≤◌, ◌⊎◌, ◌&&◌, [], List, Some, Bool, true, false, is_ok, is_err, length, take, IfOk, IfErr, MatchResult, Ok, Err};
 ghost use Rattle.std.specs.Result.{IsErrOf};
 ghost use Rattle.http_range.specs.declared.reason.FetchFault.TheVariants.{Failed};
 ghost use Rattle.http_range.specs.Fetching.{FetcherState, IsFresh, AsksWell, Stops, AsksOn, AsksAfter, FailsDialing, DialsWell, Fetches};
+ghost use Rattle.http_range.specs.Links.{Blob};
 ghost use Rattle.http_range.specs.Requests.{request_text};
+ghost use Rattle.http_range.specs.Serving.{IsFileOf, IsRangeOf, IsServed, IsServedAt, Serves};
 
 use crate::asking::ask;
 use crate::heads::HEAD;
@@ -46,9 +48,12 @@ impl<L: Link> Fetcher<L> {
     /// fault has come since it began.
     pub fn new(alloc: Global, link: L) -> Result<Fetcher<L>, (L, Memory)>
         requires { IsFresh (L.state link) }
-        ensures { MatchResult result
+        ensures made { MatchResult result
             (λ f. f ≡ record { link = L.state link; held = []; used = false; refused = false })
             (λ e. e.0 ≡ link) }
+        // where the link tells its files, nothing was received that was not asked for
+        ensures serves { IfOk result (λ f. Serves f.link) }
+        ensures served { (blobs : List Blob) → (L.state link).blobs ≡ Some blobs → IsServedAt blobs (L.state link) [] }
     {
         match vec![in alloc; 0; HEAD] {
             Ok(buffer) => Ok(Fetcher {
@@ -60,6 +65,13 @@ impl<L: Link> Fetcher<L> {
             }),
             Err(_) => Err((link, Memory)),
         }
+    }
+
+    // What the link's own law says.
+    fn law(&self)
+        ensures { Serves self.now.link }
+    {
+        let _ = &self.link;
     }
 
     // Begins a new dial, and drops what was held.
@@ -201,8 +213,18 @@ impl<L: Link> Fetcher<L> {
         ensures later { self.old.link.faults ≤ self.new.link.faults }
         ensures calm { self.old.used ≡ false → ¬ (IsErrOf result Failed)
             → self.new.link.faults ≡ self.old.link.faults }
+        ensures blobs { self.new.link.blobs ≡ self.old.link.blobs }
+        ensures serves { Serves self.new.link }
+        // where the link tells its files and all was answered before, this is answered from the target's file
+        ensures served { let last = first + (length out.old - 1) in (blobs : List Blob) (bytes : List ℕ)
+            → self.old.link.blobs ≡ Some blobs → IsFileOf blobs target.now bytes → IsServed blobs self.old
+            → IfOk result (IsRangeOf bytes first last out.new) × IsServed blobs self.new }
     {
-        self.fetch_range(target, first, out)
+        self.law();
+        let _ = target.path();
+        let answer = self.fetch_range(target, first, out);
+        self.law();
+        answer
     }
 }
 

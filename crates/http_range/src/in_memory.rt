@@ -174,6 +174,8 @@ impl Link for MemLink {
 
     ghost state = { mem_state };
 
+    ghost serves = { λ _. tt };
+
     /// A call that was not named to fail fails only where it finds no memory, which `wants` counts.
     fn send(&mut self, bytes: &[u8]) -> Result<(), LinkFailed>
         ensures ok { OnOk result (self.new ≡ record self.old {

@@ -8,6 +8,7 @@ mod fetcher;
 mod fields;
 mod heads;
 mod in_memory;
+mod laws;
 mod links;
 mod reason;
 mod receiving;
@@ -19,11 +20,14 @@ mod values;
 
 pub use fetcher::Fetcher;
 pub use in_memory::MemLink;
+pub use laws::range_reply_law;
 pub use links::{Link, LinkFailed};
 pub use reason::{FetchFault, ReplyReason};
 pub use request::ask_bytes;
 pub use target::{HostText, PathText, Target};
 pub use tcp::TcpLink;
 
+#[cfg(test)]
+mod reply_tests;
 #[cfg(test)]
 mod tests;

@@ -1,7 +1,8 @@
 //! The trait of what carries requests to a server and replies back.
-ghost use Rattle.std.specs.Prelude.{ℕ, IsErr};
+ghost use Rattle.std.specs.Prelude.{ℕ, IfOk, IsErr, IsTrue};
 ghost use Rattle.sector_extent.specs.Causes.{Charges};
-ghost use Rattle.http_range.specs.Links.{LinkState, Sends, Receives, Redials};
+ghost use Rattle.http_range.specs.Links.{LinkState, Sends, Receives, Redials, is_end};
+ghost use Rattle.http_range.specs.Serving.{Serves, EndsServed};
 
 /// The fault of a link.
 #[derive(Clone, Copy, Debug, PartialEq, Eq)]
@@ -23,6 +24,7 @@ pub trait Link {
     /// bytes received is open, and after a failure all of it.
     fn receive(&mut self, out: &mut [u8]) -> Result<usize, LinkFailed>
         ensures bytes { Receives (state self.old) (state self.new) out.new result }
+        ensures end { IfOk result (λ count. IsTrue (is_end count out.new) → EndsServed (state self.new)) }
         ensures cause { Charges (λ link. (state link).faults) self.old self.new (IsErr result) };
 
     /// Begins a new dial, on which nothing was sent or received. A redial that fails has done so, or
@@ -30,4 +32,7 @@ pub trait Link {
     fn redial(&mut self) -> Result<(), LinkFailed>
         ensures dials { Redials (state self.old) (state self.new) result }
         ensures cause { Charges (λ link. (state link).faults) self.old self.new (IsErr result) };
+
+    /// A link that tells its files tells its dials too, and answers on each of them what was sent there.
+    ghost serves: { (link : Self) → Serves (state link) };
 }

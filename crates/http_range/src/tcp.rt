@@ -99,7 +99,7 @@ fn put_at(block: &mut [u8], at: usize, bytes: &[u8])
 }
 
 fn connect<R: Net<Stream = TcpStream>>(rt: &R, host: &[u8]) -> Result<TcpStream, LinkFailed> {
-    let Ok(text) = str::from_utf8(host) else {
+    let Ok(text) = str::from_utf8(bare(host)) else {
         return Err(LinkFailed);
     };
     if has_port(host) {
@@ -109,8 +109,19 @@ fn connect<R: Net<Stream = TcpStream>>(rt: &R, host: &[u8]) -> Result<TcpStream,
     }
 }
 
+// The address alone, of an IPv6 address in brackets that no port follows.
+pub(crate) fn bare(host: &[u8]) -> &[u8] {
+    match host.strip_prefix(b"[".as_slice()) {
+        Some(rest) => match rest.strip_suffix(b"]".as_slice()) {
+            Some(address) => address,
+            None => host,
+        },
+        None => host,
+    }
+}
+
 // Whether a colon stands behind the last bracket.
-fn has_port(host: &[u8]) -> bool {
+pub(crate) fn has_port(host: &[u8]) -> bool {
     for byte in host.iter().rev() {
         if *byte == b']' {
             return false;
@@ -220,6 +231,8 @@ fn read_some(stream: &mut TcpStream, out: &mut [u8]) -> Result<usize, LinkFailed
 
 impl<R: Net<Stream = TcpStream>> Link for TcpLink<R> {
     ghost state = { λ s. record { faults = s.faults.count; dials = None; blobs = None } };
+
+    ghost serves = { λ _. tt };
 
     fn send(&mut self, bytes: &[u8]) -> Result<(), LinkFailed> {
         match self.gather(bytes) {

@@ -3,6 +3,7 @@ ghost use Rattle.http_range.specs.Fetching.{IsFresh};
 ghost use Rattle.http_range.specs.InMemory.{mem_state};
 
 use super::*;
+use crate::tcp::{bare, has_port};
 use sector_extent::{Bytes, CallList, FileTexts};
 use std::alloc::{AllocError, Global};
 use std::io::{Read, Write};
@@ -98,24 +99,44 @@ fn refused_replies(rt: HostRuntime) -> Result<(), Fail> {
 }
 
 #[test]
+fn hosts_with_and_without_a_port(rt: HostRuntime) -> Result<(), Fail> {
+    let table: [(&[u8], bool, &[u8]); 7] = [
+        (b"127.0.0.1:8080", true, b"127.0.0.1:8080"),
+        (b"127.0.0.1", false, b"127.0.0.1"),
+        (b"layers.example", false, b"layers.example"),
+        (b"layers.example:81", true, b"layers.example:81"),
+        (b"[::1]", false, b"::1"),
+        (b"[::1]:81", true, b"[::1]:81"),
+        (b"[::1", true, b"[::1"),
+    ];
+    for (host, port, address) in table {
+        assert_eq!(rt; has_port(host), port, "{host:?}");
+        assert!(rt; bare(host) == address, "{host:?}");
+    }
+    Ok(())
+}
+
+#[test]
 fn a_link_over_tcp(rt: HostRuntime) -> Result<(), Fail> {
-    let listener = TcpListener::bind(&rt, "127.0.0.1:0")?;
-    let address = listener.local_addr()?;
-    let host = format!(in rt.alloc(); "127.0.0.1:{}", address.port())?;
-    let host = Bytes::from_vec(Vec::from_slice(rt.alloc(), host.as_bytes())?);
-    let mut link = TcpLink::new(&rt, host);
-    assert_eq!(rt; link.send(b"GET "), Ok(()));
-    let (mut served, _peer) = listener.accept()?;
-    served.write_all(b"ok")?;
-    assert_eq!(rt; link.send(b"/"), Ok(()));
-    let mut out = [0; 4];
-    assert_eq!(rt; link.receive(&mut out), Ok(2));
-    let mut request = [0; 5];
-    served.read_exact(&mut request)?;
-    assert_eq!(rt; request, *b"GET /");
-    drop(served);
-    assert_eq!(rt; link.receive(&mut out), Ok(0));
-    drop(listener);
-    assert_eq!(rt; link.redial(), Err(LinkFailed));
+    for name in ["127.0.0.1", "localhost"] {
+        let listener = TcpListener::bind(&rt, "127.0.0.1:0")?;
+        let address = listener.local_addr()?;
+        let host = format!(in rt.alloc(); "{name}:{}", address.port())?;
+        let host = Bytes::from_vec(Vec::from_slice(rt.alloc(), host.as_bytes())?);
+        let mut link = TcpLink::new(&rt, host);
+        assert_eq!(rt; link.send(b"GET "), Ok(()));
+        let (mut served, _peer) = listener.accept()?;
+        served.write_all(b"ok")?;
+        assert_eq!(rt; link.send(b"/"), Ok(()));
+        let mut out = [0; 4];
+        assert_eq!(rt; link.receive(&mut out), Ok(2));
+        let mut request = [0; 5];
+        served.read_exact(&mut request)?;
+        assert_eq!(rt; request, *b"GET /");
+        drop(served);
+        assert_eq!(rt; link.receive(&mut out), Ok(0));
+        drop(listener);
+        assert_eq!(rt; link.redial(), Err(LinkFailed));
+    }
     Ok(())
 }

@@ -1,5 +1,5 @@
 -- Where nothing stands in the way of a command on an image, only want of memory refuses it.
-use Rattle.std.proofs.Common.{◌≡◌, ◌≢◌, ℕ, ◌+◌, ◌%◌, ◌<◌, ◌≤◌, IsTrue, List, [], ◌∷◌, length, refl, sym, ap, ◌∙◌, subst, arith, inl, inr}
+use Rattle.std.proofs.Common.{◌≡◌, ◌≢◌, ℕ, ◌+◌, ◌%◌, ◌<◌, ◌≤◌, IsTrue, List, [], ◌∷◌, length, map, refl, sym, ap, ◌∙◌, subst, arith, inl, inr}
 use Rattle.std.specs.Prelude.{Option, Some, None, IfSome, ◌⊎◌}
 use Rattle.block_disk.specs.DiskState.{Files}
 use Rattle.lsmt_header.specs.declared.head.Head.{Head}
@@ -7,7 +7,7 @@ use Rattle.flat_image.specs.declared.act.Act.{Act}
 use Rattle.flat_image.specs.declared.base.Base.{Base}
 use Rattle.flat_image.specs.Sectors.{sector_count}
 use Rattle.flat_image.specs.History.{IsOver, rows_taken, sectors_taken}
-use Rattle.flat_image.specs.Stacks.{Legal}
+use Rattle.flat_image.specs.Stacks.{uppermost, Legal}
 use Rattle.layer_stack.specs.Faults.{IsStackFault}
 use Rattle.image_core.specs.declared.loading.LoadFault.{LoadFault}
 use Rattle.image_core.specs.Shows.{Shows}
@@ -115,14 +115,9 @@ load-clear command before now disk disk_now fault clear other none =
 
 -- ---- sizes
 
-head-size : List Head → ℕ
-head-size [] = 0
-head-size (head ∷ heads) = head.sectors
-
-size-by_heads : (layers : List LayerSheet) → sectors_of layers ≡ head-size (heads_of layers)
-unfolding head-size
-size-by_heads [] = refl
-size-by_heads (layer ∷ above) = refl
+size-by_heads : (n : ℕ) (layers : List LayerSheet) → uppermost n (map (λ (l : LayerSheet). l.head.sectors) layers) ≡ uppermost n (map (λ (h : Head). h.sectors) (heads_of layers))
+size-by_heads n [] = refl
+size-by_heads n (layer ∷ above) = size-by_heads layer.head.sectors above
 
 some-files : (files : List (List ℕ)) (layers : List LayerSheet) → AreLayers files layers → Legal (heads_of layers) → 1 ≤ length files
 some-files [] [] are legal = absurd (let some = legal.some in omega (arith, some))
@@ -131,7 +126,10 @@ some-files (file ∷ files) layers are legal = omega arith
 
 size-clear : (sectors : ℕ) (files : List (List ℕ)) (layers : List LayerSheet) → AreLayers files layers → HaveAskedSize (Some sectors) files layers → HaveOtherSize files sectors → ⊥
 size-clear sectors files layers are asked (others, these, legal, differs) =
-    differs (size-by_heads others ∙ ap head-size (heads_agree files others layers these are) ∙ sym (size-by_heads layers) ∙ asked (some-files files others these legal))
+    let same : sectors_of others ≡ sectors_of layers =
+    size-by_heads 0 others ∙ ap (λ (heads : List Head). uppermost 0 (map (λ (h : Head). h.sectors) heads)) (heads_agree files others layers these are) ∙ sym (size-by_heads 0 layers) in
+    let within = asked (some-files files others these legal) in
+    omega (arith, same, differs, within)
 
 -- ---- all refusals
 

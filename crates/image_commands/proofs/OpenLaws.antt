@@ -1,5 +1,5 @@
 -- An image that was opened or made over the layers of a shelf.
-use Rattle.std.proofs.Common.{◌≡◌, ℕ, ◌<◌, Bool, IsTrue, List, [], ◌∷◌, length, refl, sym, ap, ◌∙◌, subst, arith, inl, inr}
+use Rattle.std.proofs.Common.{◌≡◌, ℕ, ◌<◌, Bool, true, false, IsTrue, List, [], ◌∷◌, length, refl, sym, ap, ◌∙◌, subst, arith, inl, inr}
 use Rattle.std.specs.Prelude.{Option, IfSome}
 use Rattle.block_disk.specs.DiskState.{DiskState}
 use Rattle.flat_image.specs.declared.base.Base.{Base}
@@ -13,6 +13,7 @@ use Rattle.image_core.specs.Seen.{StandsFor}
 use Rattle.image_core.specs.Seen as seen
 use Rattle.image_core.specs.Loading.{AreStackOrNone, IsLoadReason}
 use Rattle.image_core.specs.Opening.{lowers_from}
+use Rattle.image_core.proofs.Sizes.{sound-weaker}
 use Rattle.image_core.proofs.SheetsRead.{layers-length}
 use Rattle.layer_commands.specs.Flattening.{AreTold}
 use Rattle.image_commands.specs.Images.{DiskPort, AreStackedFiles, LiesOver, Takes}
@@ -53,7 +54,7 @@ pub lies-over : (told : Option (List (List ℕ))) (count : ℕ) (layers : List L
     → AreStackedFiles told → length layers ≡ count → p.lowers ≡ layers → base.lowers ≡ lowers_from told layers → StandsFor (record { tells = tells; state = s; faults = faults; parts = p }) base [] → LiesOver told count base
 lies-over told count layers tells s faults p base are long same lowers stands = record {
   stacked = are;
-  sound = stands.fits.sound;
+  sound = sound-weaker stands.fits.exact false base (λ e. absurd (let no : false ≡ true = e in cc)) stands.fits.sound;
   long = layers-length base.lowers p.lowers stands.fits.lowers ∙ ap length same ∙ long;
   lowers = IfSome-each told (λ files e. lowers ∙ ap (λ (o : Option (List (List ℕ))). lowers_from o layers) e);
 }

@@ -4,9 +4,9 @@ use Rattle.std.specs.Prelude.{fold, All, Some}
 use Rattle.std.proofs.lemmas.List.Elements.{All-nil, All-cons, All-head, All-tail, All-filter, filter-append}
 use Rattle.block_disk.specs.DiskState.{Files}
 use Rattle.flat_image.specs.declared.act.Act.{Act}
-use Rattle.flat_image.specs.declared.act.Act.TheVariants.{Read, Write, Zero, Flush, Freeze, Seal, Fault}
+use Rattle.flat_image.specs.declared.act.Act.TheVariants.{Read, Write, Zero, Flush, Freeze, Seal, Grow, Fault}
 use Rattle.flat_image.specs.declared.act.Asked.{Asked}
-use Rattle.flat_image.specs.declared.act.Asked.TheVariants.{Uuid}
+use Rattle.flat_image.specs.declared.act.Asked.TheVariants.{Uuid, Sectors}
 use Rattle.flat_image.specs.declared.base.Base.{Base}
 use Rattle.flat_image.specs.declared.stands.Entry.{Entry}
 use Rattle.flat_image.specs.Sheets.{bytes_of}
@@ -41,6 +41,7 @@ module _ {S : Type 0} (f : S → Act → S) (unread : (s : S) (at count : ℕ) �
   run-entry number Flush es same s = same (f s Flush)
   run-entry number (Freeze uuid) es same s = same (f s (Freeze uuid))
   run-entry number (Seal uuid) es same s = same (f s (Seal uuid))
+  run-entry number (Grow sectors) es same s = same (f s (Grow sectors))
   run-entry number (Fault asked) es same s = same (f s (Fault asked))
 
   pub run-without : (h : History) (s : S) → run s h ≡ run s (without_reads h)
@@ -111,6 +112,7 @@ IsChange (Zero at count) = Unit {0}
 IsChange Flush = ⊥
 IsChange (Freeze uuid) = ⊥
 IsChange (Seal uuid) = ⊥
+IsChange (Grow sectors) = ⊥
 IsChange (Fault asked) = ⊥
 
 change-good : (act : Act) → IsChange act → (asked : Asked) → act ≡ Fault asked → ⊥
@@ -120,6 +122,7 @@ change-good (Zero at count) is asked e = cc
 change-good Flush is asked e = absurd is
 change-good (Freeze uuid) is asked e = absurd is
 change-good (Seal uuid) is asked e = absurd is
+change-good (Grow sectors) is asked e = absurd is
 change-good (Fault other) is asked e = absurd is
 
 flush-good : (asked : Asked) → Flush ≡ Fault asked → ⊥
@@ -129,13 +132,16 @@ flush-good asked e = cc
 pub shows-none : (base : Base) (files : Files) → ShowsLeft base [] files → Shows files base
 shows-none base files left =
     kept-shows base [] files left refl (λ uuid blamed. no-blame [] blamed.front blamed.rest blamed.number (Uuid uuid) (All-nil IsGood) blamed.splits)
+    (λ sectors blamed. no-blame [] blamed.front blamed.rest blamed.number (Sectors sectors) (All-nil IsGood) blamed.splits)
 
 -- and of a change that was flushed, what it made of the base
 pub shows-kept : (base : Base) (act : Act) (files : Files) → IsChange act → kept (entries (kept_change act)) ≡ 2 → ShowsLeft base (entries (kept_change act)) files → Shows files (now base (entries (kept_change act)))
 shows-kept base act files is all left =
+    let good : All IsGood (entries (kept_change act)) =
+    All-cons IsGood (entry 0 act) (entry 0 Flush ∷ []) (change-good act is) (All-cons IsGood (entry 0 Flush) [] flush-good (All-nil IsGood)) in
     kept-shows base (entries (kept_change act)) files left all
-    (λ uuid blamed. no-blame (entries (kept_change act)) blamed.front blamed.rest blamed.number (Uuid uuid)
-    (All-cons IsGood (entry 0 act) (entry 0 Flush ∷ []) (change-good act is) (All-cons IsGood (entry 0 Flush) [] flush-good (All-nil IsGood))) blamed.splits)
+    (λ uuid blamed. no-blame (entries (kept_change act)) blamed.front blamed.rest blamed.number (Uuid uuid) good blamed.splits)
+    (λ sectors blamed. no-blame (entries (kept_change act)) blamed.front blamed.rest blamed.number (Sectors sectors) good blamed.splits)
 
 -- ---- what is read
 

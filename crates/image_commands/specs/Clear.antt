@@ -14,10 +14,10 @@ use Rattle.layer_commands.specs.Ports.{Ports}
 use Rattle.layer_commands.specs.Causes.{IsCalm}
 use Rattle.image_commands.specs.Images.{DiskPort, IsInput, acts_of, kept_change, reach_of}
 
--- the layers have the size that was asked for, or there are some where none was asked for
+-- the uppermost layer has no more sectors than were asked for, or there are layers where none was asked for
 abbrev pub HaveAskedSize : Option ℕ → List (List ℕ) → List LayerSheet → Type 0
 HaveAskedSize None files layers = 1 ≤ length files
-HaveAskedSize (Some sectors) files layers = 1 ≤ length files → sectors_of layers ≡ sectors
+HaveAskedSize (Some sectors) files layers = 1 ≤ length files → sectors_of layers ≤ sectors
 
 -- The disk's files show an image without commits over these lower files, with no sequence over 2^61; the command's sectors
 -- lie in it, and there is room for its change.

@@ -56,13 +56,13 @@ IsPartFed (Create asked) before now = ⊤
 IsPartFed (Read at count) before now = ⊤
 IsPartFed (Zero at count) before now = ⊤
 
--- layers have another size than that
+-- layers of which the uppermost has more sectors than that
 abbrev pub HaveOtherSize : List (List ℕ) → ℕ → Type 0
-HaveOtherSize files sectors = (layers : List LayerSheet) × AreLayers files layers × Legal (heads_of layers) × (sectors_of layers ≢ sectors)
+HaveOtherSize files sectors = (layers : List LayerSheet) × AreLayers files layers × Legal (heads_of layers) × (sectors < sectors_of layers)
 
--- layers of that size, or none
+-- layers of which the uppermost has no more sectors, or none
 abbrev pub HaveOwnSize : List (List ℕ) → ℕ → Type 0
-HaveOwnSize files sectors = (layers : List LayerSheet) × AreLayers files layers × (1 ≤ length files → sectors_of layers ≡ sectors)
+HaveOwnSize files sectors = (layers : List LayerSheet) × AreLayers files layers × (1 ≤ length files → sectors_of layers ≤ sectors)
 
 -- there is a size for a new image
 abbrev pub HasSize : Option ℕ → Option (List (List ℕ)) → ℕ → Type 0

@@ -5,7 +5,7 @@ use Rattle.byte_ports.specs.Ports.{AppendsFront}
 use Rattle.block_disk.specs.DiskState.{DiskState}
 use Rattle.block_disk.specs.Claims.{Quiet}
 use Rattle.flat_image.specs.declared.act.Act.{Act}
-use Rattle.flat_image.specs.declared.act.Act.TheVariants.{Read, Write, Zero, Flush, Freeze, Seal, Fault}
+use Rattle.flat_image.specs.declared.act.Act.TheVariants.{Read, Write, Zero, Flush, Freeze, Seal, Grow, Fault}
 use Rattle.flat_image.specs.declared.act.Asked.TheVariants.{Nothing}
 use Rattle.flat_image.specs.declared.base.Base.{Base}
 use Rattle.flat_image.specs.Entries.{entry, StartsWith}
@@ -15,6 +15,7 @@ use Rattle.top_writer.specs.declared.fault.WriteFault.{WriteFault}
 use Rattle.top_writer.specs.declared.fault.WriteFault.TheVariants as write
 use Rattle.gate_mark.specs.MarkFile.{mark_of}
 use Rattle.sealed_layer.specs.Layers.{LayerIndex}
+use Rattle.layer_commands.specs.Flattening.{upper_sectors}
 use Rattle.image_core.specs.Numbers.{manifest_file}
 use Rattle.image_core.specs.declared.creating.CreateFault.{CreateFault}
 use Rattle.image_core.specs.declared.creating.CreateFault.TheVariants as create
@@ -60,6 +61,7 @@ is_no_read (Zero at count) = true
 is_no_read Flush = true
 is_no_read (Freeze uuid) = true
 is_no_read (Seal uuid) = true
+is_no_read (Grow sectors) = true
 is_no_read (Fault asked) = true
 
 -- a history without its reads
@@ -145,10 +147,9 @@ abbrev pub IsMade : Option ℕ → Option (List (List ℕ)) → ℕ → DiskPort
 IsMade asked told count disk image =
     (base : Base) × LiesOver told count base × IsNew asked count disk base × StandsFor image base []
 
--- the size that was asked for is not that of the lowest layer
+-- the size that was asked for is below that of the uppermost layer
 abbrev pub IsOtherSize : Option ℕ → List LayerIndex → Type 0
-IsOtherSize asked [] = ⊥
-IsOtherSize asked (layer ∷ above) = (sectors : ℕ) × (asked ≡ Some sectors) × (layer.head.sectors ≢ sectors)
+IsOtherSize asked layers = (sectors : ℕ) × (asked ≡ Some sectors) × (sectors < upper_sectors layers)
 
 -- why there is no size for a new image over these layers
 abbrev pub SizeCause : Option ℕ → List LayerIndex → Refusal → Type 0

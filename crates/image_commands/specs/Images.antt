@@ -1,5 +1,5 @@
 -- What the image commands do to a disk, and what they print.
-use Rattle.std.specs.Prelude.{◌≡◌, ℕ, ◌+◌, ◌*◌, ◌<◌, ◌≤◌, ◌⊎◌, Bool, IsTrue, List, [], ◌∷◌, ◌++◌, length, map, Option, Some, None, IfSome}
+use Rattle.std.specs.Prelude.{◌≡◌, ℕ, ◌+◌, ◌*◌, ◌<◌, ◌≤◌, ◌⊎◌, Bool, false, IsTrue, List, [], ◌∷◌, ◌++◌, length, map, Option, Some, None, IfSome}
 use Rattle.std.specs.Io.KnownBytes.{Appends}
 use Rattle.byte_ports.specs.Ports.{AppendsFront}
 use Rattle.block_disk.specs.DiskState.{DiskState, Files, Leaves}
@@ -8,6 +8,7 @@ use Rattle.flat_image.specs.declared.act.Act.{Act}
 use Rattle.flat_image.specs.declared.act.Act.TheVariants as act
 use Rattle.flat_image.specs.declared.act.Asked.TheVariants.{Nothing}
 use Rattle.flat_image.specs.declared.base.Base.{Base}
+use Rattle.flat_image.specs.Base.{top_size}
 use Rattle.flat_image.specs.Entries.{entry, StartsWith}
 use Rattle.flat_image.specs.History.{History, after, reply}
 use Rattle.flat_image.specs.History as history
@@ -101,18 +102,18 @@ AreStackedFiles told = IfSome told (λ files. (layers : List LayerSheet) × AreL
 -- the lower layers of the base are the shelf's, whose files they are where the shelf tells them, and form a stack
 pub record LiesOver (told : Option (List (List ℕ))) (count : ℕ) (base : Base) : Type 0 where
   pub stacked : AreStackedFiles told
-  pub sound : IsSound base
+  pub sound : IsSound false base
   pub long : length base.lowers ≡ count
   pub lowers : IfSome told (λ files. base.lowers ≡ files)
 
--- a creation makes an image of the size that it was asked for, or else of the layers' size, of which there are some
-abbrev pub IsSizeFor : Option ℕ → ℕ → ℕ → Type 0
-IsSizeFor None count sectors = 1 ≤ count
-IsSizeFor (Some asked) count sectors = sectors ≡ asked
+-- a creation makes an image of the size that it was asked for, or else, where there are layers, of the uppermost one's
+abbrev pub IsSizeFor : Option ℕ → ℕ → ℕ → ℕ → Type 0
+IsSizeFor None count upper sectors = (1 ≤ count) × (sectors ≡ upper)
+IsSizeFor (Some asked) count upper sectors = sectors ≡ asked
 
 -- a new image, in which nothing was written, on a disk that holds none
 pub record IsNew (asked : Option ℕ) (count : ℕ) (disk : DiskPort) (base : Base) : Type 0 where
-  pub size : IsSizeFor asked count base.sectors
+  pub size : IsSizeFor asked count (top_size 0 base.lowers) base.sectors
   pub none : IsTrue disk.tells → mark_of (disk.state.seen manifest_file) ≡ None
   pub fresh : base ≡ fresh_at base.sectors base.lowers base.faults
 

@@ -6,6 +6,7 @@ ghost use Rattle.image_core.specs.Creating.{AreLegal};
 ghost use Rattle.image_core.specs.Seen.{seen, view, faults_in};
 ghost use Rattle.sector_extent.specs.Causes.{Charges};
 ghost use Rattle.layer_shelf.specs.Shelves.{SameFiles};
+ghost use Rattle.layer_commands.specs.Flattening.{upper_sectors};
 ghost use Rattle.image_commands.specs.ImageReports.{created_line};
 ghost use Rattle.image_commands.specs.Images.{IsSizeFor, disk_port};
 ghost use Rattle.image_commands.specs.ImageSteps.{IsMade, SizeCause, MakeCause, create_refused_as};
@@ -16,7 +17,7 @@ use block_disk::Disk;
 use image_core::{CreateFault, Image, LayerList};
 use layer_commands::Refusal;
 use layer_shelf::Shelf;
-use sealed_layer::Layer;
+use sealed_layer::{Layer, layers_law};
 use std::alloc::Global;
 
 /// The sectors of a layer.
@@ -28,28 +29,30 @@ fn layer_size(layer: &Layer) -> u64
     layer.head().sectors
 }
 
-/// The size of a new image over these layers: the one that was asked for, or theirs.
+/// The size of a new image over these layers: the one that was asked for, or that of the uppermost.
 fn size_over(asked: Option<u64>, layers: &[Layer]) -> Result<u64, Refusal>
     requires stack { AreStackOrNone layers.now }
     requires size { IfSome asked IsSize }
     ensures size { IfOk result IsSize }
     ensures legal { IfOk result (λ sectors. AreLegal sectors layers.now) }
-    ensures asked { IfOk result (λ sectors. IsSizeFor asked (length layers.now) sectors) }
+    ensures asked { IfOk result (λ sectors.
+        IsSizeFor asked (length layers.now) (upper_sectors layers.now) sectors) }
     ensures refused { IfErr result (SizeCause asked layers.now) }
 {
-    let Some(lowest) = layers.first() else {
+    layers_law(layers);
+    let Some(upper) = layers.last() else {
         return match asked {
             Some(sectors) => Ok(sectors),
             None => Err(Refusal::NoSize),
         };
     };
-    let own = layer_size(lowest);
+    let own = layer_size(upper);
     match asked {
         Some(sectors) => {
-            if sectors != own {
+            if sectors < own {
                 return Err(Refusal::OtherSize);
             }
-            Ok(own)
+            Ok(sectors)
         }
         None => Ok(own),
     }

@@ -1,3 +1,5 @@
+pub mod Grows
+pub mod Sizes
 pub mod FaultCounts
 pub mod BlankLayers
 pub mod Created

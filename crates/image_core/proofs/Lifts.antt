@@ -45,7 +45,7 @@ keeps-stands tells disk faults v base history k =
       told = k.holds.told;
       crash = λ files leaves.
           let shown : ShowsMayBe (now base history) k.tops k.attempts files =
-          files-shown (now base history) k.tops k.attempts files good.0 good.1 k.holds.sound (k.holds.crash files leaves) in
+          files-shown (now base history) k.tops k.attempts files good.0 good.1 (k.holds.crash files leaves) in
           record { found = shown.found; shows = shown.shows; left = left-of base history k.tops k.attempts shown.found k.kept k.blamed shown.may_be };
       failed = k.failed;
       steps = k.steps;

@@ -13,7 +13,7 @@ use Rattle.flat_image.specs.Frozen.{Frozen}
 use Rattle.flat_image.specs.Base.{sheet_list, image_of, IsLayerFile, IsBase}
 use Rattle.flat_image.specs.LayerReading.{sheet_in}
 use Rattle.flat_image.specs.History.{History, now, after, committed}
-use Rattle.flat_image.proofs.HistoryLaws.{base-stays, after-is_image, now-lowers}
+use Rattle.flat_image.proofs.HistoryLaws.{base-stays, after-is_image, now-lowers, layer_fits, image-over}
 use Rattle.flat_image.proofs.LayerLaws.{sheet_in-IsLayer, IsSheet-IsLayer}
 use Rattle.flat_image.proofs.Painting.{FitsIn, AreWhole, length-image_in, AreWhole-image_in, AreSectors-paint, length-flat, length-paint}
 use Rattle.top_writer.specs.Gaps.{Paints, IsHole, AreGaps}
@@ -58,23 +58,6 @@ sector-in (suc n) bytes zero below = refl
 sector-in (suc n) bytes (suc k) below =
     let past : 512 + 512 * k ≡ 512 * suc k = omega arith in
     sector-in n (drop 512 bytes) k (omega (arith, below)) ∙ ap (take 512) (drop-drop (512 * k) 512 bytes ∙ ap (λ (j : ℕ). drop j bytes) past)
-
--- the sheets of layer files are as long as the image
-layers-fit : (n : ℕ) (files : List (List ℕ)) → All (IsLayerFile n) files → All (FitsIn n) (map sheet_in files)
-layers-fit n [] are = All-nil (FitsIn n)
-layers-fit n (file ∷ files) are =
-    let is = All-head (IsLayerFile n) file files are in
-    let sheet = IsSheet-IsLayer n is.0 is.1 file is.2 in
-    All-cons (FitsIn n) (sheet_in file) (map sheet_in files)
-    (omega (arith, sheet.count, ap (length {A = Cell}) (sheet_in-IsLayer n is.0 is.1 file is.2)))
-    (layers-fit n files (All-tail (IsLayerFile n) file files are))
-
--- an image in which nothing is frozen is its layers under its top
-image-over : (b : Base) → b.frozen ≡ None → image_of b ≡ paint (flat b.sectors (map sheet_in (b.lowers ++ b.done))) b.top
-image-over b none =
-    let zeros : List (List ℕ) = replicate b.sectors zero_sector in
-    let below : List (List Cell) = map sheet_in (b.lowers ++ b.done) in
-    ap (λ (f : Option Frozen). fold paint zeros (below ++ (sheet_list f ++ b.top ∷ []))) none ∙ fold-append paint zeros below (b.top ∷ [])
 
 module _ (ground : List (List ℕ)) (top : List Cell) (n : ℕ) (long : length ground ≡ n) (is : IsSheet n top) (at count : ℕ) (old new : List ℕ) (size : length old ≡ 512 * count)
     (within : at + count ≤ n) (paints : Paints top at count old new) where
@@ -126,7 +109,7 @@ module _ (x : Seen) (base : Base) (history : History) (stands : StandsFor x base
   good = (base-stays base history stands.base_is stands.few stands.proper).0
 
   long : length ground ≡ b.sectors
-  long = length-flat b.sectors (map sheet_in (b.lowers ++ b.done)) (layers-fit b.sectors (b.lowers ++ b.done) good.layers)
+  long = length-flat b.sectors (map sheet_in (b.lowers ++ b.done)) (layer_fits 0 b.sectors (b.lowers ++ b.done) good.layers good.rising)
 
   sectors : n ≡ b.sectors
   sectors = stands.fits.top.holds.sectors
@@ -135,7 +118,7 @@ module _ (x : Seen) (base : Base) (history : History) (stands : StandsFor x base
   top-is = upper-top b stands.fits.none_frozen
 
   image : paint ground b.top ≡ after base history
-  image = sym (image-over b stands.fits.none_frozen) ∙ after-is_image base history stands.base_is stands.few stands.proper
+  image = sym (image-over b good stands.fits.none_frozen) ∙ after-is_image base history stands.base_is stands.few stands.proper
 
   layers : ground ≡ flat n (map sheet_in (base.lowers ++ b.done))
   layers = let lows : b.lowers ≡ base.lowers = now-lowers base history in λ i. flat (sym sectors i) (map sheet_in (lows i ++ b.done))

@@ -9,21 +9,22 @@ use Rattle.sealed_layer.specs.Layers.{LayerIndex}
 use Rattle.sealed_layer.proofs.LayerUnique.{one_layer}
 use Rattle.layer_stack.proofs.StackLemmas.{fault_not_legal}
 use Rattle.flat_image.specs.declared.base.Base.{Base}
+use Rattle.flat_image.specs.LayerFiles.{AreHeadsOf}
 use Rattle.flat_image.specs.Base.{pending_of, top_uuid}
 use Rattle.flat_image.specs.Left.{stand}
-use Rattle.top_writer.specs.Files.{stored_in}
-use Rattle.flat_image.specs.Stacks.{HaveSize, Legal}
+use Rattle.top_writer.specs.Files.{stored_in, asked_of}
+use Rattle.flat_image.specs.Stacks.{Legal}
 use Rattle.top_writer.specs.declared.fault.TopReason.{TopReason}
 use Rattle.top_writer.specs.Reasons.{IsReason}
 use Rattle.top_writer.proofs.OneStand.{no_reason}
 use Rattle.image_core.specs.declared.loading.LoadFault.{LoadFault}
 use Rattle.image_core.specs.declared.loading.LoadFault.TheVariants as why
 use Rattle.image_core.specs.Numbers.{manifest_file, with_pending}
-use Rattle.image_core.specs.Manifest.{size_said, uuid_or_nil}
-use Rattle.image_core.specs.Shows.{epoch_of, AreHeadsOf, AreStack, ShowsStand, Shows}
+use Rattle.image_core.specs.Manifest.{size_said, exact_said, uuid_or_nil}
+use Rattle.image_core.specs.Shows.{epoch_of, HaveSize, AreStack, ShowsStand, Shows}
 use Rattle.image_core.specs.View.{AreLayersOf}
 use Rattle.image_core.specs.Seen.{Seen, StandsFor}
-use Rattle.image_core.specs.Loading.{heads_in, upper_uuid, IsBareBody, HasManifest, Reopens, ReopensAs}
+use Rattle.image_core.specs.Loading.{heads_in, upper_uuid, IsBareBody, HasManifest, IsTopReason, Reopens, ReopensAs}
 use Rattle.image_core.proofs.Created.{same-upper}
 use Rattle.image_core.proofs.ShownBase.{shows-one_base}
 use Rattle.image_core.proofs.StackMore.{heads-length}
@@ -55,6 +56,7 @@ module _ (files : Files) (b : Base) (layers : List LayerIndex) (shows : Shows fi
     epoch = shows.names.epoch ∙ (λ i. with_pending (length (none_done i)) (pending_of (none_frozen i)));
     uuid = shows.names.uuid ∙ ap (λ f. uuid_or_nil (pending_of f)) none_frozen;
     size = subst IsSize (sym shows.names.size) shows.sound.size;
+    format = shows.names.format;
   }
 
   body_is : (body : List ℕ) → HasManifest files body → body ≡ shows.body
@@ -63,19 +65,25 @@ module _ (files : Files) (b : Base) (layers : List LayerIndex) (shows : Shows fi
   size_is : (body : List ℕ) → HasManifest files body → size_said body ≡ b.sectors
   size_is body manifest = ap size_said (body_is body manifest) ∙ shows.names.size
 
-  stack : AreStack b.sectors b.lowers
-  stack = subst (AreStack b.sectors) (append-nil b.lowers) (subst (λ (d : List (List ℕ)). AreStack b.sectors (b.lowers ++ d)) none_done shows.sound.stack)
+  stack : AreStack (exact_said shows.body) b.sectors b.lowers
+  stack = subst (AreStack (exact_said shows.body) b.sectors) (append-nil b.lowers)
+      (subst (λ (d : List (List ℕ)). AreStack (exact_said shows.body) b.sectors (b.lowers ++ d)) none_done shows.sound.stack)
 
-  sizes : HaveSize b.sectors (heads_in layers)
-  sizes = subst (HaveSize b.sectors) (same-heads b.lowers stack.heads layers stack.are are) stack.sizes
+  sizes : (body : List ℕ) → HasManifest files body → HaveSize (exact_said body) (size_said body) (heads_in layers)
+  sizes body manifest =
+      subst (λ (x : List ℕ). HaveSize (exact_said x) (size_said body) (heads_in layers)) (sym (body_is body manifest))
+      (subst (λ m. HaveSize (exact_said shows.body) m (heads_in layers)) (sym (size_is body manifest))
+      (subst (HaveSize (exact_said shows.body) b.sectors) (same-heads b.lowers stack.heads layers stack.are are) stack.sizes))
 
-  no-top : shows.top.sequence ≤ 2 ^ 61 → (body : List ℕ) → HasManifest files body → (reason : TopReason) → IsReason (size_said body) (Some (upper_uuid layers)) (stored_in 0 files) reason → ⊥
+  no-top : shows.top.sequence ≤ 2 ^ 61 → (body : List ℕ) → HasManifest files body → (reason : TopReason) → IsTopReason files body layers reason → ⊥
   no-top low body manifest reason bad =
       let epoch : epoch_of b ≡ 0 = λ i. with_pending (length (none_done i)) (pending_of (none_frozen i)) in
-      let top = subst (λ (e : ℕ). (x : ShowsStand e b.sectors b.lowers (stand b) files) × (x.sequence ≤ 2 ^ 61)) epoch (shows.top, low) in
-      no_reason b.sectors (Some (top_uuid b.lowers)) (stand b) (stored_in 0 files) top.0 top.1 reason
-      (subst (λ u. IsReason b.sectors (Some u) (stored_in 0 files) reason) (same-upper b.lowers layers are)
-      (subst (λ m. IsReason m (Some (upper_uuid layers)) (stored_in 0 files) reason) (size_is body manifest) bad))
+      let top = subst (λ (e : ℕ). (x : ShowsStand (exact_said shows.body) e b.sectors b.lowers (stand b) files) × (x.sequence ≤ 2 ^ 61)) epoch (shows.top, low) in
+      let said : exact_said body ≡ exact_said shows.body = ap exact_said (body_is body manifest) in
+      no_reason b.sectors (asked_of (exact_said shows.body) (Some (top_uuid b.lowers))) (stand b) (stored_in 0 files) top.0 top.1 reason
+      (subst (λ u. IsReason b.sectors (asked_of (exact_said shows.body) (Some u)) (stored_in 0 files) reason) (same-upper b.lowers layers are)
+      (subst (λ m. IsReason m (asked_of (exact_said shows.body) (Some (upper_uuid layers))) (stored_in 0 files) reason) (size_is body manifest)
+      (subst (λ e. IsReason (size_said body) (asked_of e (Some (upper_uuid layers))) (stored_in 0 files) reason) said bad)))
 
 pub reopens : (files : Files) (b : Base) (layers : List LayerIndex) (fault : LoadFault) → Reopens files b layers fault
 reopens files b layers why.Memory shows low none_done none_frozen are bad = inl refl
@@ -86,7 +94,7 @@ reopens files b layers (why.ManifestWorn sequence) shows low none_done none_froz
 reopens files b layers why.ManifestBad shows low none_done none_frozen are bad =
     absurd (bad.2 (subst IsBareBody (sym (body_is files b layers shows none_done none_frozen are bad.0 bad.1)) (bare files b layers shows none_done none_frozen are)))
 reopens files b layers why.SizeDiffers shows low none_done none_frozen are bad =
-    absurd (bad.3 (subst (λ m. HaveSize m (heads_in layers)) (sym (size_is files b layers shows none_done none_frozen are bad.0 bad.1)) (sizes files b layers shows none_done none_frozen are)))
+    absurd (bad.3 (sizes files b layers shows none_done none_frozen are bad.0 bad.1))
 reopens files b layers (why.Stack fault) shows low none_done none_frozen are bad =
     let st = stack files b layers shows none_done none_frozen are in
     let heads = same-heads b.lowers st.heads layers st.are are in

@@ -1,60 +1,49 @@
 -- What files show is a base with few stretches, and one at most.
 use Rattle.std.proofs.Common.{◌≡◌, ◌≢◌, ℕ, ◌≤◌, ◌^◌, List, [], ◌∷◌, ◌++◌, length, drop, refl, sym, ap, ◌∙◌, subst, arith}
-use Rattle.std.specs.Prelude.{All, Option, Some, None, IfSome}
+use Rattle.std.specs.Prelude.{Bool, Option, Some, None, IfSome}
 use Rattle.std.proofs.lemmas.List.{length-take-le, length-drop, ext_get_or}
-use Rattle.std.proofs.lemmas.List.Elements.{All-nil, All-cons, All-head, All-tail}
 use Rattle.block_disk.specs.DiskState.{Files}
-use Rattle.lsmt_header.specs.declared.head.Head.{Head}
 use Rattle.lsmt_header.specs.Blocks.{nil}
-use Rattle.flat_image.specs.Stacks.{HaveSize}
 use Rattle.flat_image.specs.declared.base.Base.{Base}
 use Rattle.flat_image.specs.Frozen.{Frozen}
 use Rattle.flat_image.specs.CanonicalFiles.{stretches}
-use Rattle.flat_image.specs.Base.{pending_of, IsLayerFile, IsFrozen}
+use Rattle.flat_image.specs.Base.{pending_of, IsFrozen}
 use Rattle.flat_image.specs.Left.{Stand, stand}
-use Rattle.top_writer.specs.Files.{stored_in}
+use Rattle.top_writer.specs.Files.{stored_in, HeadsAsked}
 use Rattle.image_core.specs.Numbers.{manifest_file, with_pending}
-use Rattle.image_core.specs.Manifest.{count_said, uuid_said, size_said, uuid_or_nil}
-use Rattle.image_core.specs.Shows.{epoch_of, AreHeadsOf, parent_asked, ShowsStand, ShowsFrozen}
+use Rattle.image_core.specs.Manifest.{count_said, uuid_said, size_said, exact_said, uuid_or_nil}
+use Rattle.image_core.specs.Shows.{epoch_of, heads_asked, ShowsStand, ShowsFrozen}
 use Rattle.image_core.specs.Laws.{ShowsABase, ShowsOneBase}
+use Rattle.image_core.proofs.Sizes.{heads-layers, stack-rising}
 use Rattle.image_core.proofs.TopShown.{shown-sheet, shown-few, one-body, length-body, one-top}
-
--- files with heads of layers are files of layers
-pub heads-layers : (n : ℕ) (files : List (List ℕ)) (heads : List Head) → AreHeadsOf files heads → HaveSize n heads → All (IsLayerFile n) files
-heads-layers n [] heads are sizes = All-nil (IsLayerFile n)
-heads-layers n (file ∷ files) [] are sizes = absurd are
-heads-layers n (file ∷ files) (head ∷ heads) are sizes =
-    let Size : Head → Type 0 = λ h. h.sectors ≡ n in
-    All-cons (IsLayerFile n) file files
-    (head.uuid, are.0.sheet, record { head = head; layer = are.0.layer; size = All-head Size head heads sizes; named = refl })
-    (heads-layers n files heads are.1 (All-tail Size head heads sizes))
 
 length-uuid : (body : List ℕ) → length body ≡ 48 → length (uuid_said body) ≡ 16
 unfolding uuid_said
 length-uuid body long = length-take-le 16 (drop 16 body) (omega (arith, length-drop 16 body, long))
 
-frozen-shown : (epoch n : ℕ) (lowers : List (List ℕ)) (frozen : Option Frozen) (files : Files) (uuid : List ℕ) → 1 ≤ n → n ≤ 2 ^ 31
-    → ShowsFrozen epoch n lowers frozen files → uuid ≡ uuid_or_nil (pending_of frozen) → length uuid ≡ 16 → IfSome (pending_of frozen) (λ u. u ≢ nil)
+frozen-shown : (exact : Bool) (epoch n : ℕ) (lowers : List (List ℕ)) (frozen : Option Frozen) (files : Files) (uuid : List ℕ) → 1 ≤ n → n ≤ 2 ^ 31
+    → ShowsFrozen exact epoch n lowers frozen files → uuid ≡ uuid_or_nil (pending_of frozen) → length uuid ≡ 16 → IfSome (pending_of frozen) (λ u. u ≢ nil)
     → IfSome frozen (IsFrozen n) × IfSome frozen (λ f. length (stretches 0 f.sheet) ≤ 2 ^ 23)
-frozen-shown epoch n lowers None files uuid some few shows is long named = (tt, tt)
-frozen-shown epoch n lowers (Some f) files uuid some few shows is long named =
+frozen-shown exact epoch n lowers None files uuid some few shows is long named = (tt, tt)
+frozen-shown exact epoch n lowers (Some f) files uuid some few shows is long named =
     let s : Stand = record { cells = f.sheet; rows = shows.rows; filled = shows.filled } in (
-      record { long = ap (length {A = ℕ}) (sym is) ∙ long; named = named; sheet_is = shown-sheet n (parent_asked epoch lowers) s (stored_in epoch files) shows.shows some few },
-      omega (arith, shown-few n (parent_asked epoch lowers) s (stored_in epoch files) shows.shows, shows.shows.counts.room.rows_fit),
+      record { long = ap (length {A = ℕ}) (sym is) ∙ long; named = named; sheet_is = shown-sheet n (heads_asked exact epoch lowers) s (stored_in epoch files) shows.shows some few },
+      omega (arith, shown-few n (heads_asked exact epoch lowers) s (stored_in epoch files) shows.shows, shows.shows.counts.room.rows_fit),
     )
 
 pub shows-a_base : (files : Files) (base : Base) → ShowsABase files base
 shows-a_base files base shows =
     let long : length shows.body ≡ 48 = length-body (files manifest_file) shows.sequence shows.body shows.manifest in
-    let frozen = frozen-shown (length base.done) base.sectors base.lowers base.frozen files (uuid_said shows.body) shows.sound.size.0 shows.sound.size.1 shows.frozen shows.names.uuid
+    let frozen = frozen-shown (exact_said shows.body) (length base.done) base.sectors base.lowers base.frozen files (uuid_said shows.body) shows.sound.size.0 shows.sound.size.1 shows.frozen shows.names.uuid
     (length-uuid shows.body long) shows.names.named in
-    let parent : Option (List ℕ) = parent_asked (epoch_of base) base.lowers in (
+    let asked : HeadsAsked = heads_asked (exact_said shows.body) (epoch_of base) base.lowers in (
       record {
-        top_is = shown-sheet base.sectors parent (stand base) (stored_in (epoch_of base) files) shows.top shows.sound.size.0 shows.sound.size.1;
+        top_is = shown-sheet base.sectors asked (stand base) (stored_in (epoch_of base) files) shows.top shows.sound.size.0 shows.sound.size.1;
         frozen_is = frozen.0;
-        layers = heads-layers base.sectors (base.lowers ++ base.done) shows.sound.stack.heads shows.sound.stack.are shows.sound.stack.sizes;
+        layers = heads-layers (base.lowers ++ base.done) shows.sound.stack.heads shows.sound.stack.are;
+        rising = stack-rising (exact_said shows.body) base.sectors (base.lowers ++ base.done) shows.sound.stack;
       },
-      record { top = shown-few base.sectors parent (stand base) (stored_in (epoch_of base) files) shows.top; frozen = frozen.1 },
+      record { top = shown-few base.sectors asked (stand base) (stored_in (epoch_of base) files) shows.top; frozen = frozen.1 },
     )
 
 -- one commit in progress, and one frozen sheet
@@ -64,14 +53,14 @@ one-pending None (Some u) same named other = absurd (other (sym same))
 one-pending (Some u) None same named other = absurd (named same)
 one-pending (Some u) (Some v) same named other = ap (λ (x : List ℕ). Some x) same
 
-one-frozen : (epoch n : ℕ) (lowers lowers' : List (List ℕ)) (f g : Option Frozen) (files : Files) → pending_of f ≡ pending_of g
-    → ShowsFrozen epoch n lowers f files → ShowsFrozen epoch n lowers' g files → f ≡ g
-one-frozen epoch n lowers lowers' None None files same shows other = refl
-one-frozen epoch n lowers lowers' None (Some g) files same shows other = absurd (let e : None ≡ Some g.uuid = same in cc)
-one-frozen epoch n lowers lowers' (Some f) None files same shows other = absurd (let e : Some f.uuid ≡ None = same in cc)
-one-frozen epoch n lowers lowers' (Some f) (Some g) files same shows other =
+one-frozen : (exact exact' : Bool) (epoch n : ℕ) (lowers lowers' : List (List ℕ)) (f g : Option Frozen) (files : Files) → pending_of f ≡ pending_of g
+    → ShowsFrozen exact epoch n lowers f files → ShowsFrozen exact' epoch n lowers' g files → f ≡ g
+one-frozen exact exact' epoch n lowers lowers' None None files same shows other = refl
+one-frozen exact exact' epoch n lowers lowers' None (Some g) files same shows other = absurd (let e : None ≡ Some g.uuid = same in cc)
+one-frozen exact exact' epoch n lowers lowers' (Some f) None files same shows other = absurd (let e : Some f.uuid ≡ None = same in cc)
+one-frozen exact exact' epoch n lowers lowers' (Some f) (Some g) files same shows other =
     let uuid : f.uuid ≡ g.uuid = cc in
-    let tops = one-top n (parent_asked epoch lowers) (parent_asked epoch lowers') (record { cells = f.sheet; rows = shows.rows; filled = shows.filled })
+    let tops = one-top n (heads_asked exact epoch lowers) (heads_asked exact' epoch lowers') (record { cells = f.sheet; rows = shows.rows; filled = shows.filled })
     (record { cells = g.sheet; rows = other.rows; filled = other.filled }) (stored_in epoch files) shows.shows other.shows in
     let sheet : f.sheet ≡ g.sheet = ap (λ (s : Stand). s.cells) tops in
     λ i. Some (record { uuid = uuid i; sheet = sheet i })
@@ -86,12 +75,12 @@ shows-one_base files base other shows others lowers faults =
     let pending : pending_of base.frozen ≡ pending_of other.frozen =
     one-pending (pending_of base.frozen) (pending_of other.frozen) (sym shows.names.uuid ∙ (ap uuid_said body ∙ others.names.uuid)) shows.names.named others.names.named in
     let frozen : base.frozen ≡ other.frozen =
-    one-frozen (length base.done) base.sectors base.lowers other.lowers base.frozen other.frozen files pending shows.frozen
-    (subst (λ k. ShowsFrozen k base.sectors other.lowers other.frozen files) (sym count) (subst (λ m. ShowsFrozen (length other.done) m other.lowers other.frozen files) (sym sectors) others.frozen)) in
+    one-frozen (exact_said shows.body) (exact_said others.body) (length base.done) base.sectors base.lowers other.lowers base.frozen other.frozen files pending shows.frozen
+    (subst (λ k. ShowsFrozen (exact_said others.body) k base.sectors other.lowers other.frozen files) (sym count) (subst (λ m. ShowsFrozen (exact_said others.body) (length other.done) m other.lowers other.frozen files) (sym sectors) others.frozen)) in
     let epoch : epoch_of base ≡ epoch_of other = λ i. with_pending (count i) (pending i) in
     let top : stand base ≡ stand other =
-    one-top base.sectors (parent_asked (epoch_of base) base.lowers) (parent_asked (epoch_of base) other.lowers) (stand base) (stand other) (stored_in (epoch_of base) files) shows.top
-    (subst (λ k. ShowsStand k base.sectors other.lowers (stand other) files) (sym epoch) (subst (λ m. ShowsStand (epoch_of other) m other.lowers (stand other) files) (sym sectors) others.top)) in
+    one-top base.sectors (heads_asked (exact_said shows.body) (epoch_of base) base.lowers) (heads_asked (exact_said others.body) (epoch_of base) other.lowers) (stand base) (stand other) (stored_in (epoch_of base) files) shows.top
+    (subst (λ k. ShowsStand (exact_said others.body) k base.sectors other.lowers (stand other) files) (sym epoch) (subst (λ m. ShowsStand (exact_said others.body) (epoch_of other) m other.lowers (stand other) files) (sym sectors) others.top)) in
     λ i. record {
       sectors = sectors i;
       lowers = lowers i;

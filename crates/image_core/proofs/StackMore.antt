@@ -1,17 +1,19 @@
 -- One layer more on files that form a stack.
-use Rattle.std.proofs.Common.{◌≡◌, ◌≢◌, ℕ, suc, ◌+◌, ◌<◌, ◌≤◌, List, [], ◌∷◌, ◌++◌, length, map, get_or, refl, sym, ap, ◌∙◌, arith, length-append}
+use Rattle.std.proofs.Common.{◌≡◌, ◌≢◌, ℕ, suc, ◌+◌, ◌<◌, ◌≤◌, List, [], ◌∷◌, ◌++◌, length, map, get_or, true, false, refl, sym, ap, ◌∙◌, subst, arith, length-append}
 use Rattle.std.specs.Prelude.{All, Contains}
 use Rattle.std.proofs.lemmas.List.{length-map, get_or-map}
 use Rattle.std.proofs.lemmas.List.Elements.{All-nil, All-cons, All-head, All-append, All-weaker, All-contains_itself}
 use Rattle.lsmt_header.specs.declared.head.Head.{Head}
 use Rattle.lsmt_header.specs.Blocks.{nil}
-use Rattle.flat_image.specs.Stacks.{HaveSize, Legal}
-use Rattle.flat_image.specs.LayerReading.{uuid_in}
+use Rattle.flat_image.specs.LayerFiles.{IsHeadOf, AreHeadsOf}
+use Rattle.flat_image.specs.Stacks.{uppermost, StandsOn, Legal}
+use Rattle.flat_image.specs.LayerReading.{uuid_in, size_in}
 use Rattle.flat_image.specs.Base as bases
-use Rattle.flat_image.proofs.LayerLaws.{uuid_in-layer}
-use Rattle.layer_stack.specs.Faults.{top_uuid, HasSize, AreFree}
+use Rattle.flat_image.proofs.LayerLaws.{uuid_in-layer, size_in-layer}
+use Rattle.layer_stack.specs.Faults.{top_uuid, top_sectors, HasSize, AreFree}
 use Rattle.layer_stack.proofs.StackLemmas.{AreFree-push, AreFree-none, Legal-from_free}
-use Rattle.image_core.specs.Shows.{IsHeadOf, AreHeadsOf, AreStack}
+use Rattle.top_writer.specs.Files.{IsSizeFor}
+use Rattle.image_core.specs.Shows.{AreStack}
 
 -- as many heads as files
 pub heads-length : (files : List (List ℕ)) (heads : List Head) → AreHeadsOf files heads → length heads ≡ length files
@@ -68,14 +70,27 @@ legal-free [] legal = AreFree-none
 legal-free (head ∷ heads) legal =
     let is : Legal (head ∷ heads) = legal (omega arith) in record { sizes = is.sizes; stacked = is.stacked; unlike = is.unlike }
 
-has_size : (n : ℕ) (heads : List Head) (head : Head) → HaveSize n heads → head.sectors ≡ n → HasSize heads head
-has_size n [] head sizes size = tt
-has_size n (lowest ∷ heads) head sizes size = size ∙ sym (All-head (λ (h : Head). h.sectors ≡ n) lowest heads sizes)
+-- the sectors of the uppermost file
+heads-size : (n : ℕ) (files : List (List ℕ)) (heads : List Head) → AreHeadsOf files heads → bases.top_size n files ≡ top_sectors n heads
+heads-size n [] [] are = refl
+heads-size n [] (head ∷ heads) are = absurd are
+heads-size n (file ∷ files) [] are = absurd are
+heads-size n (file ∷ files) (head ∷ heads) are =
+    ap (λ (k : ℕ). uppermost k (map size_in files)) (size_in-layer file head are.0.sheet are.0.layer) ∙ heads-size head.sectors files heads are.1
 
--- a layer over the uppermost, with a uuid of its own, makes a stack again
-pub stack-more : (n : ℕ) (files : List (List ℕ)) (file : List ℕ) (head : Head) → AreStack n files → IsHeadOf file head → head.sectors ≡ n → head.parent ≡ bases.top_uuid files
-    → (Contains (map uuid_in files) head.uuid → ⊥) → length files < 255 → AreStack n (files ++ file ∷ [])
-stack-more n files file head stack is size parent none few =
+has_size : (n : ℕ) (files : List (List ℕ)) (heads : List Head) (head : Head) → AreHeadsOf files heads → StandsOn (bases.top_size n files) head → HasSize heads head
+has_size n [] [] head are stands = tt
+has_size n [] (lowest ∷ heads) head are stands = absurd are
+has_size n (file ∷ files) [] head are stands = absurd are
+has_size n (file ∷ files) (lowest ∷ heads) head are stands =
+    subst (λ (k : ℕ). StandsOn k head)
+    (ap (λ (k : ℕ). uppermost k (map size_in files)) (size_in-layer file lowest are.0.sheet are.0.layer) ∙ heads-size lowest.sectors files heads are.1) stands
+
+-- a layer that stands over the uppermost, with a uuid of its own, makes a stack again
+pub stack-more : (n below : ℕ) (files : List (List ℕ)) (file : List ℕ) (head : Head) → AreStack false n files → IsHeadOf file head → head.sectors ≤ n
+    → StandsOn (bases.top_size below files) head → head.parent ≡ bases.top_uuid files
+    → (Contains (map uuid_in files) head.uuid → ⊥) → length files < 255 → AreStack false n (files ++ file ∷ [])
+stack-more n below files file head stack is size stands parent none few =
     let count : length stack.heads ≡ length files = heads-length files stack.heads stack.are in
     let free : AreFree stack.heads = legal-free stack.heads (λ some. stack.legal (omega (arith, count, some))) in
     let long : length (stack.heads ++ head ∷ []) ≡ length files + 1 = length-append stack.heads (head ∷ []) ∙ (let e : length stack.heads + 1 ≡ length files + 1 = omega (arith, count) in e) in
@@ -83,11 +98,12 @@ stack-more n files file head stack is size parent none few =
       heads = stack.heads ++ head ∷ [];
       are = heads-more files stack.heads file head stack.are is;
       sizes =
-          let Size : Head → Type 0 = λ h. h.sectors ≡ n in
-          All-append Size stack.heads (head ∷ []) stack.sizes (All-cons Size head [] size (All-nil Size));
+          let Size : Head → Type 0 = λ h. IsSizeFor false n h.sectors in
+          All-append Size stack.heads (head ∷ []) stack.sizes
+          (All-cons Size head [] (record { within = size; same = λ e. absurd (let no : false ≡ true = e in cc) }) (All-nil Size));
       legal = λ some. Legal-from_free (stack.heads ++ head ∷ []) (omega (arith, long)) (omega (arith, long, few))
           (AreFree-push stack.heads head free (record {
-            size = has_size n stack.heads head stack.sizes size;
+            size = has_size below files stack.heads head stack.are stands;
             parent = parent ∙ stack-top files stack.heads stack.are;
             uuid = own-uuid files stack.heads head.uuid stack.are none;
           }));

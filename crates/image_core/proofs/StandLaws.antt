@@ -4,7 +4,7 @@ use Rattle.std.specs.Prelude.{slice_index_or}
 use Rattle.std.proofs.lemmas.List.{get_or_append_left}
 use Rattle.block_disk.specs.DiskState.{DiskState, Files}
 use Rattle.flat_image.specs.declared.act.Asked.{Asked}
-use Rattle.flat_image.specs.declared.act.Asked.TheVariants.{Nothing, Uuid}
+use Rattle.flat_image.specs.declared.act.Asked.TheVariants.{Nothing, Uuid, Sectors}
 use Rattle.flat_image.specs.declared.base.Base.{Base}
 use Rattle.flat_image.specs.Sheets.{IsImage, flat}
 use Rattle.flat_image.specs.Base.{IsBase, sheets_of, image_of}
@@ -21,7 +21,7 @@ use Rattle.image_core.specs.Standing.{ViewStands}
 use Rattle.image_core.proofs.SheetsRead.{sealed-read, layers-length, sheets-read, same-kinds, same-commit}
 
 pub kept-shows : (base : Base) (history : History) (files : Files) → KeptShows base history files
-kept-shows base history files left all none = subst (Shows files) (leaves-now base history all none left.found left.left) left.shows
+kept-shows base history files left all none no_grow = subst (Shows files) (leaves-now base history all none no_grow left.found left.left) left.shows
 
 pub history-reads : (tells : Bool) (disk : DiskState) (faults : ℕ) (v : ImageView) (base : Base) (history : History) → HistoryReads tells disk faults v base history
 history-reads tells disk faults v base history stands =
@@ -69,6 +69,7 @@ left-done base history b left =
 
     advanced : (asked : Asked) → Advances (put_top (now base history) (stand (now base left.front))) asked b → HasDone (committed base history) b
     advanced Nothing advances = absurd advances
+    advanced (Sectors sectors) advances = has_same (committed base history) b (ap (λ (x : Base). x.done) advances.1)
     advanced (Uuid uuid) advances =
         elim advances [
           | inl frozen ↦ has_same (committed base history) b (ap (λ (x : Base). x.done) frozen.1)

@@ -7,13 +7,15 @@ use Rattle.block_disk.specs.declared.disk.Disk.{Ghosts}
 use Rattle.flat_image.specs.declared.act.Act.{Act}
 use Rattle.flat_image.specs.declared.base.Base.{Base}
 use Rattle.flat_image.specs.History.{History, now}
-use Rattle.flat_image.proofs.HistoryLaws.{now-sectors}
+use Rattle.flat_image.proofs.HistoryLaws.{now-append, size-rises, proper-rest}
 use Rattle.top_writer.specs.View.{sectors_of}
 use Rattle.image_core.specs.declared.image.Image.{Image}
 use Rattle.image_core.specs.declared.steps.Numbered.{Numbered}
 use Rattle.image_core.specs.declared.steps.Reply.{Reply}
 use Rattle.image_core.specs.Seen.{seen, StandsFor, IsImage, more}
-use Rattle.image_core.specs.Steps.{noted_with, noted_as, noted_by, AreReplies, added, Makes, GoesBy, MakesNext}
+use Rattle.image_core.specs.declared.steps.Step.{Step}
+use Rattle.image_core.specs.declared.steps.Step.TheVariants.{Plan, Write, Zero, Flush, Grow, Status}
+use Rattle.image_core.specs.Steps.{MayStep, noted_with, noted_as, noted_by, AreReplies, added, Makes, GoesBy, MakesNext}
 
 -- a history with what is noted
 more-noted : (history : History) (number : ℕ) (o : Option Act) → more history number o ≡ history ++ noted_as number o
@@ -30,6 +32,15 @@ length-noted [] made = omega arith
 length-noted (s ∷ list) [] = omega arith
 length-noted (s ∷ list) (reply ∷ made) =
     omega (arith, length-append (noted_as s.number (noted_with s.step reply)) (noted_by list made), short-noted s.number (noted_with s.step reply), length-noted list made)
+
+-- a step that may be asked for of an image may be of a larger one
+pub may-more : (n m : ℕ) (step : Step) → n ≤ m → MayStep n step → MayStep m step
+may-more n m (Plan e) more may = omega (arith, may, more)
+may-more n m (Write e bytes) more may = (may.0, omega (arith, may.1, more))
+may-more n m (Zero e) more may = omega (arith, may, more)
+may-more n m Flush more may = tt
+may-more n m (Grow sectors) more may = may
+may-more n m Status more may = tt
 
 module _ {D : Type 0} (kind : Ghosts D) where
   -- whatever the image stood for, it stands then for the history with what was noted
@@ -117,7 +128,7 @@ module _ {D : Type 0} (kind : Ghosts D) where
     pub went-replies : (base : Base) (history : History) → StandsFor (seen kind old) base history → AreReplies kind.tells base history list (added before after)
     went-replies = by-replies old new list (added before after) went-goes
 
-    -- so far the image stands, has no more steps than were made, and its sectors
+    -- so far the image stands, has no more steps than were made, and no fewer sectors
     pub went-standing : IsImage (seen kind old) → IsImage (seen kind new)
     went-standing (base, history, k) = (base, history ++ noted_by list (added before after), went-stands base history k)
 
@@ -126,7 +137,9 @@ module _ {D : Type 0} (kind : Ghosts D) where
         let noted : History = noted_by list (added before after) in
         omega (arith, (went-stands base history k).steps, k.steps, length-append history noted, length-noted list (added before after), went-length)
 
-    pub went-sectors : IsImage (seen kind old) → sectors_of new.parts.top ≡ sectors_of old.parts.top
+    pub went-sectors : IsImage (seen kind old) → sectors_of old.parts.top ≤ sectors_of new.parts.top
     went-sectors (base, history, k) =
         let now_k = went-stands base history k in
-        now_k.fits.top.holds.sectors ∙ (now-sectors base (history ++ noted_by list (added before after)) ∙ sym (k.fits.top.holds.sectors ∙ now-sectors base history))
+        let noted : History = noted_by list (added before after) in
+        let rises : (now base history).sectors ≤ (now (now base history) noted).sectors = size-rises (now base history) noted (proper-rest base history noted now_k.proper) in
+        omega (arith, rises, k.fits.top.holds.sectors, now_k.fits.top.holds.sectors, ap (λ (b : Base). b.sectors) (now-append base history noted))

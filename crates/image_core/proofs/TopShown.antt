@@ -18,7 +18,7 @@ use Rattle.flat_image.specs.Left.{Stand}
 use Rattle.flat_image.proofs.CellLaws.{whole_by, covers-from, covers-below}
 use Rattle.flat_image.proofs.LayerLaws.{length-range, all_cells, rows_in-spelled}
 use Rattle.flat_image.proofs.RowStretches.{rows-make_few}
-use Rattle.top_writer.specs.Files.{Stored, rows_said, sectors_said}
+use Rattle.top_writer.specs.Files.{Stored, HeadsAsked, rows_said, sectors_said}
 use Rattle.top_writer.specs.Rows.{IsTopRow, top_sheet}
 use Rattle.top_writer.specs.Showing.{ShowsTop}
 
@@ -42,7 +42,7 @@ all_reversed P (row ∷ rows) are =
     (λ i below. subst P (sym (get_or-reverse (row ∷ rows) i row (omega (arith, below, long))))
     (All-get_or P (row ∷ rows) (length (row ∷ rows) - 1 - i) row (omega (arith, below, long)) are))
 
-module _ (n : ℕ) (parent : Option (List ℕ)) (s : Stand) (t : Stored) (shows : ShowsTop n parent s t) where
+module _ (n : ℕ) (asked : HeadsAsked) (s : Stand) (t : Stored) (shows : ShowsTop n asked s t) where
   pub shown-sheet : 1 ≤ n → n ≤ 2 ^ 31 → IsSheet n s.cells
   shown-sheet some few = record {
     some = some;
@@ -97,11 +97,11 @@ length-body file sequence body shows =
         let same : body_of slot file ≡ body = ap (body_or body) is in ap (length {A = ℕ}) (sym same) ∙ body_long slot file long
 
 -- files show one top at most
-pub one-top : (n : ℕ) (parent asked : Option (List ℕ)) (s other : Stand) (t : Stored) → ShowsTop n parent s t → ShowsTop n asked other t → s ≡ other
-one-top n parent asked s other t shows others =
+pub one-top : (n : ℕ) (asked asked' : HeadsAsked) (s other : Stand) (t : Stored) → ShowsTop n asked s t → ShowsTop n asked' other t → s ≡ other
+one-top n asked asked' s other t shows others =
     let body : shows.body ≡ others.body = one-body t.mark shows.sequence others.sequence shows.body others.body shows.mark others.mark in
     let rows : s.rows ≡ other.rows = sym shows.counts.rows_are ∙ (ap rows_said body ∙ others.counts.rows_are) in
     let filled : s.filled ≡ other.filled = sym shows.counts.sectors_are ∙ (ap sectors_said body ∙ others.counts.sectors_are) in
-    let same : shows.rows ≡ others.rows = shown-rows n parent s t shows ∙ (ap (rows_in t.index 4096) rows ∙ sym (shown-rows n asked other t others)) in
+    let same : shows.rows ≡ others.rows = shown-rows n asked s t shows ∙ (ap (rows_in t.index 4096) rows ∙ sym (shown-rows n asked' other t others)) in
     let cells : s.cells ≡ other.cells = shows.cells ∙ (ap (top_sheet t.bytes n) same ∙ sym others.cells) in
     λ i. record { cells = cells i; rows = rows i; filled = filled i }

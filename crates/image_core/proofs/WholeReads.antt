@@ -1,5 +1,5 @@
 -- What a read through the layers gives.
-use Rattle.std.proofs.Common.{◌≡◌, ℕ, ◌+◌, ◌*◌, ◌<◌, ◌≤◌, ◌⊎◌, List, [], ◌∷◌, ◌++◌, length, map, take, drop, refl, sym, ap, subst, ◌∙◌, arith, inl, inr}
+use Rattle.std.proofs.Common.{◌≡◌, ℕ, ◌+◌, ◌*◌, ◌<◌, ◌≤◌, ◌⊎◌, Bool, List, [], ◌∷◌, ◌++◌, length, map, take, drop, refl, sym, ap, subst, ◌∙◌, arith, inl, inr}
 use Rattle.std.specs.Prelude.{slice_index_or}
 use Rattle.std.specs.List.{range_with_len}
 use Rattle.std.proofs.lemmas.List.{append-nil, get_or-take, get_or-drop, length-drop, length-take-le}
@@ -12,7 +12,7 @@ use Rattle.flat_image.specs.RowCells.{sector_at}
 use Rattle.flat_image.specs.Base.{IsBase, image_of}
 use Rattle.flat_image.specs.LayerReading.{sheet_in}
 use Rattle.flat_image.specs.History.{History, now, after, reply}
-use Rattle.flat_image.proofs.HistoryLaws.{base-stays, after-is_image, base-is_image, now-lowers, now-sectors}
+use Rattle.flat_image.proofs.HistoryLaws.{base-stays, after-is_image, base-is_image, now-lowers}
 use Rattle.sealed_layer.specs.Layers.{LayerIndex}
 use Rattle.merged_index.specs.declared.piece.PieceWhat.{PieceWhat}
 use Rattle.merged_index.specs.declared.piece.PieceWhat.TheVariants as what
@@ -20,7 +20,9 @@ use Rattle.merged_index.specs.Cells.{cells_of, IsIndexOf, NamesData}
 use Rattle.merged_index.specs.Painting.{AreFiles}
 use Rattle.merged_index.proofs.PaintLaws.{paints_as_sheets}
 use Rattle.top_writer.specs.Gaps.{Paints, AreGaps}
-use Rattle.image_core.specs.Shows.{AreHeadsOf}
+use Rattle.flat_image.specs.LayerFiles.{AreHeadsOf}
+use Rattle.top_writer.specs.Files.{IsSizeFor}
+use Rattle.image_core.specs.Shows.{HaveSize}
 use Rattle.image_core.specs.View.{AreLayersOf}
 use Rattle.image_core.specs.Parts.{parts_view}
 use Rattle.image_core.specs.Seen.{Seen, StandsFor}
@@ -28,7 +30,6 @@ use Rattle.image_core.specs.Upper.{upper, IsGap}
 use Rattle.image_core.specs.Pieces.{SnapshotView, IsSnapshotOf}
 use Rattle.image_core.specs.Planning.{IsPlanned, ReadsBelow}
 use Rattle.image_core.specs.Whole.{sectors_by, AreFilled, AreOnShelf}
-use Rattle.flat_image.specs.Stacks.{HaveSize}
 use Rattle.lsmt_header.specs.declared.head.Head.{Head}
 use Rattle.image_core.specs.Loading.{heads_in}
 use Rattle.image_core.proofs.Planned.{plan-reads, holes-below}
@@ -36,14 +37,14 @@ use Rattle.image_core.proofs.Reopening.{same-heads}
 use Rattle.image_core.proofs.SheetsRead.{layers-length}
 use Rattle.image_core.proofs.FilledSectors.{AreGapsFilled, gaps-filled, bytes-are}
 
--- files of layers of one size are those of an index of the layers
-are-files : (n : ℕ) (files : List (List ℕ)) (layers : List LayerIndex) → AreLayersOf files layers → HaveSize n (heads_in layers) → AreFiles n files layers
-are-files n [] [] are sizes = tt
-are-files n [] (layer ∷ layers) are sizes = absurd are
-are-files n (file ∷ files) [] are sizes = absurd are
-are-files n (file ∷ files) (layer ∷ layers) are sizes =
-    let Size : Head → Type 0 = λ h. h.sectors ≡ n in
-    ((are.0, All-head Size layer.head (heads_in layers) sizes), are-files n files layers are.1 (All-tail Size layer.head (heads_in layers) sizes))
+-- files of layers of no more than n sectors are those of an index of the layers
+are-files : (exact : Bool) (n : ℕ) (files : List (List ℕ)) (layers : List LayerIndex) → AreLayersOf files layers → HaveSize exact n (heads_in layers) → AreFiles n files layers
+are-files exact n [] [] are sizes = tt
+are-files exact n [] (layer ∷ layers) are sizes = absurd are
+are-files exact n (file ∷ files) [] are sizes = absurd are
+are-files exact n (file ∷ files) (layer ∷ layers) are sizes =
+    let Size : Head → Type 0 = λ h. IsSizeFor exact n h.sectors in
+    ((are.0, (All-head Size layer.head (heads_in layers) sizes).within), are-files exact n files layers are.1 (All-tail Size layer.head (heads_in layers) sizes))
 
 -- a snapshot without committed layers is of the lower ones
 index-of : (s : SnapshotView) (lowers : List LayerIndex) → IsSnapshotOf s lowers [] → IsIndexOf s.index lowers
@@ -91,9 +92,9 @@ module _ (x : Seen) (base : Base) (history : History) (s : SnapshotView) (at cou
       let all : b.lowers ++ b.done ≡ b.lowers = ap (λ (d : List (List ℕ)). b.lowers ++ d) stands.fits.none_done ∙ append-nil b.lowers in
       let stack = stands.fits.sound.stack in
       let heads : AreHeadsOf b.lowers stack.heads = subst (λ (f : List (List ℕ)). AreHeadsOf f stack.heads) all stack.are in
-      let sizes : HaveSize b.sectors (heads_in x.parts.lowers) = subst (HaveSize b.sectors) (same-heads b.lowers stack.heads x.parts.lowers heads stands.fits.lowers) stack.sizes in
+      let sizes : HaveSize stands.fits.exact b.sectors (heads_in x.parts.lowers) = subst (HaveSize stands.fits.exact b.sectors) (same-heads b.lowers stack.heads x.parts.lowers heads stands.fits.lowers) stack.sizes in
       (λ i. flat (sectors i) (map sheet_in (sym lows i)))
-      ∙ paints_as_sheets b.sectors b.lowers x.parts.lowers s.index (are-files b.sectors b.lowers x.parts.lowers stands.fits.lowers sizes) (index-of s x.parts.lowers is)
+      ∙ paints_as_sheets b.sectors b.lowers x.parts.lowers s.index (are-files stands.fits.exact b.sectors b.lowers x.parts.lowers stands.fits.lowers sizes) (index-of s x.parts.lowers is)
 
   ground-sector : (i : ℕ) → i < n → slice_index_or ground i [] ≡ sectors_by base.lowers (cells_of s.index) i
   ground-sector i below =
@@ -153,10 +154,10 @@ module _ (x : Seen) (base : Base) (history : History) (stands : StandsFor x base
       let all : b.lowers ++ b.done ≡ b.lowers = ap (λ (d : List (List ℕ)). b.lowers ++ d) stands.fits.none_done ∙ append-nil b.lowers in
       let stack = stands.fits.sound.stack in
       let heads : AreHeadsOf b.lowers stack.heads = subst (λ (f : List (List ℕ)). AreHeadsOf f stack.heads) all stack.are in
-      let sizes : HaveSize b.sectors (heads_in x.parts.lowers) = subst (HaveSize b.sectors) (same-heads b.lowers stack.heads x.parts.lowers heads stands.fits.lowers) stack.sizes in
+      let sizes : HaveSize stands.fits.exact b.sectors (heads_in x.parts.lowers) = subst (HaveSize stands.fits.exact b.sectors) (same-heads b.lowers stack.heads x.parts.lowers heads stands.fits.lowers) stack.sizes in
       let ground : flat n (map sheet_in base.lowers) ≡ map (sectors_by b.lowers (cells_of s.index)) (range_with_len 0 b.sectors) =
       (λ i. flat (sectors i) (map sheet_in (sym lows i)))
-      ∙ paints_as_sheets b.sectors b.lowers x.parts.lowers s.index (are-files b.sectors b.lowers x.parts.lowers stands.fits.lowers sizes) (index-of s x.parts.lowers is) in
+      ∙ paints_as_sheets b.sectors b.lowers x.parts.lowers s.index (are-files stands.fits.exact b.sectors b.lowers x.parts.lowers stands.fits.lowers sizes) (index-of s x.parts.lowers is) in
       ap (λ (l : List (List ℕ)). slice_index_or l i []) ground
       ∙ (get_or-map-range_with_len (sectors_by b.lowers (cells_of s.index)) 0 b.sectors i i [] (omega (arith, below, sectors)) (omega arith)
       ∙ ap (λ (files : List (List ℕ)). sectors_by files (cells_of s.index) i) lows)
@@ -175,17 +176,16 @@ reads-below x base history s stands is =
     let b = now base history in
     let n = (parts_view x.parts).sectors in
     let sectors : n ≡ b.sectors = stands.fits.top.holds.sectors in
-    let size : b.sectors ≡ base.sectors = now-sectors base history in
     let none : base.lowers ++ b.done ≡ base.lowers = ap (λ (d : List (List ℕ)). base.lowers ++ d) stands.fits.none_done ∙ append-nil base.lowers in
     let files : length x.parts.lowers ≡ length base.lowers = sym (layers-length base.lowers x.parts.lowers (subst (λ (l : List (List ℕ)). AreLayersOf l x.parts.lowers) (now-lowers base history) stands.fits.lowers)) in
     record {
       lowers_are = is.lowers_are ∙ files;
       none_done = stands.fits.none_done;
       named = on-shelf s x.parts.lowers (length (base.lowers ++ b.done)) is (ap (λ (l : List (List ℕ)). length l) none ∙ sym files);
-      image = subst (λ (k : ℕ). IsImage k (after base history)) (sectors ∙ size) (image-of-parts x base history stands);
+      image = subst (λ (k : ℕ). IsImage k (after base history)) sectors (image-of-parts x base history stands);
       sectors = λ i below hole.
           ap (λ (l : List (List ℕ)). sectors_by l (cells_of s.index) i) none
-          ∙ sym (holes-below x base history stands i (omega (arith, below, sectors, size)) hole
+          ∙ sym (holes-below x base history stands i (omega (arith, below, sectors)) hole
           ∙ ap (λ (l : List (List ℕ)). slice_index_or (flat n (map sheet_in l)) i []) none
-          ∙ lower-sector x base history stands s is i (omega (arith, below, sectors, size)));
+          ∙ lower-sector x base history stands s is i (omega (arith, below, sectors)));
     }

@@ -9,7 +9,6 @@ use Rattle.lsmt_header.specs.Blocks.{nil, BlockOf}
 use Rattle.top_writer.specs.Files.{data_file, index_file, new_head}
 use Rattle.flat_image.specs.declared.base.Base.{Base}
 use Rattle.flat_image.specs.Base.{fresh}
-use Rattle.flat_image.specs.Stacks.{HaveSize}
 use Rattle.sealed_layer.specs.Layers.{LayerIndex}
 use Rattle.image_core.specs.declared.creating.CreateFault.{CreateFault}
 use Rattle.image_core.specs.declared.creating.CreateFault.TheVariants.{Exists, Failed}
@@ -17,11 +16,12 @@ use Rattle.image_core.specs.Loading.{heads_in, AreStackOrNone}
 use Rattle.image_core.specs.Manifest.{IsWritten}
 use Rattle.image_core.specs.Numbers.{manifest_file}
 use Rattle.image_core.specs.Seen.{Seen}
+use Rattle.image_core.specs.Shows.{HaveSize}
 
--- the layers, the lowest first, have n sectors each and form a stack, or there are none
+-- the layers, the lowest first, have no more than n sectors and form a stack, or there are none
 pub record AreLegal (n : ℕ) (layers : List LayerIndex) : Type 0 where
   pub few : length layers ≤ 255
-  pub sizes : HaveSize n (heads_in layers)
+  pub sizes : HaveSize false n (heads_in layers)
   pub legal : AreStackOrNone layers
 
 -- an image over these layers in which nothing was written, opened at that count of faults

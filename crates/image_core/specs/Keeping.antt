@@ -6,15 +6,13 @@ use Rattle.flat_image.specs.declared.base.Base.{Base}
 use Rattle.flat_image.specs.Base.{IsBase, HasFewStretches}
 use Rattle.flat_image.specs.History.{History, now, fault_count, Proper}
 use Rattle.flat_image.specs.Left.{Stand, Blamed}
-use Rattle.image_core.specs.Shows.{IsSound}
 use Rattle.image_core.specs.View.{ImageView, IsViewOf, ReadsAsBase}
 use Rattle.image_core.specs.FileSets.{FilesFit}
 use Rattle.image_core.specs.MayBe.{KeptStand}
 
 -- The image in memory and its disk are those of that base. What a crash leaves has one of these tops, and a manifest that
--- names the base, or one of these steps, a freeze or a seal, whose next top or file is whole.
+-- names the base, or one of these steps: a freeze or a seal whose next top or file is whole, or a grow.
 pub record HoldsAs (tells : Bool) (disk : DiskState) (v : ImageView) (b : Base) (tops : List Stand) (attempts : List Asked) : Type 0 where
-  pub sound : IsSound b
   pub view : IsViewOf b v
   pub told : IsTrue tells → ReadsAsBase disk.seen b v
   pub crash : (files : Files) → Leaves disk files → FilesFit b tops attempts files

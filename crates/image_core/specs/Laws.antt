@@ -5,7 +5,7 @@ use Rattle.seg_table.specs.declared.segment.Segment.{Segment}
 use Rattle.seg_table.specs.declared.segment.What.{What}
 use Rattle.seg_table.specs.declared.segment.What.TheVariants as what
 use Rattle.seg_table.specs.Cells.{cell_in}
-use Rattle.flat_image.specs.declared.act.Asked.TheVariants.{Uuid}
+use Rattle.flat_image.specs.declared.act.Asked.TheVariants.{Uuid, Sectors}
 use Rattle.flat_image.specs.declared.base.Base.{Base}
 use Rattle.flat_image.specs.Sheets.{IsImage, flat}
 use Rattle.flat_image.specs.Base.{image_of, IsBase, HasFewStretches}
@@ -29,11 +29,12 @@ ShowsOneBase files base other = Shows files base → Shows files other → base.
 abbrev pub ShowsByNamed : Files → Files → Base → Type 0
 ShowsByNamed files other base = Shows files base → ((f : ℕ) → IsNamed base f → other f ≡ files f) → Shows other base
 
--- where all is kept and no step of a commit failed since the last Freeze or Seal, what a crash leaves shows what the
--- history made
+-- where all is kept and no freeze, seal or grow failed since the last one that was made, what a crash leaves shows what
+-- the history made
 abbrev pub KeptShows : Base → History → Files → Type 0
 KeptShows base history files =
-    ShowsLeft base history files → kept history ≡ length history → ((uuid : List ℕ) → Blamed history (Uuid uuid) → ⊥) → Shows files (now base history)
+    ShowsLeft base history files → kept history ≡ length history → ((uuid : List ℕ) → Blamed history (Uuid uuid) → ⊥)
+    → ((sectors : ℕ) → Blamed history (Sectors sectors) → ⊥) → Shows files (now base history)
 
 -- in whatever a crash leaves the committed files stand byte for byte
 abbrev pub SealedStay : Base → History → Files → Type 0

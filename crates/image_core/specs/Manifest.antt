@@ -1,6 +1,6 @@
 -- The body of the manifest's mark: how many layers are committed, the epoch of the top, the uuid of the commit in
--- progress, and the sectors of the image.
-use Rattle.std.specs.Prelude.{◌≡◌, ◌≢◌, ℕ, List, take, drop, replicate, Option, Some, None, IfSome}
+-- progress, the sectors of the image, and the format.
+use Rattle.std.specs.Prelude.{◌≡◌, ◌≢◌, ◌⊎◌, ℕ, Bool, nat_eq, List, take, drop, Option, Some, None, IfSome}
 use Rattle.std.specs.Int.{w64, from_le_bytes}
 use Rattle.lsmt_header.specs.Blocks.{nil}
 use Rattle.image_core.specs.Numbers.{with_pending}
@@ -17,25 +17,33 @@ uuid_said body = take 16 (drop 16 body)
 unfoldable pub size_said : List ℕ → ℕ
 size_said body = from_le_bytes w64 (take 8 (drop 32 body))
 
+unfoldable pub format_said : List ℕ → ℕ
+format_said body = from_le_bytes w64 (take 8 (drop 40 body))
+
+-- the formats of a manifest that are known: the older one, and the one that is written
+abbrev pub IsFormat : ℕ → Type 0
+IsFormat format = (format ≡ 0) ⊎ (format ≡ 2)
+
+-- the body has the older format, in which layers and tops have just the sectors of the image
+abbrev pub exact_said : List ℕ → Bool
+exact_said body = nat_eq (format_said body) 0
+
 -- the uuid, or that of no layer
 abbrev pub uuid_or_nil : Option (List ℕ) → List ℕ
 uuid_or_nil None = nil
 uuid_or_nil (Some uuid) = uuid
 
 -- the body says so: of an image of n sectors so many layers are committed, and this commit is in progress or none. The
--- top is that of the epoch behind the committed ones, or of the next where a commit is in progress.
+-- top is that of the epoch behind the committed ones, or of the next where a commit is in progress. Its format is known.
 pub record Names (body : List ℕ) (done : ℕ) (pending : Option (List ℕ)) (n : ℕ) : Type 0 where
   pub count : count_said body ≡ done
   pub epoch : epoch_said body ≡ with_pending done pending
   pub uuid : uuid_said body ≡ uuid_or_nil pending
   pub named : IfSome pending (λ u. u ≢ nil)
   pub size : size_said body ≡ n
+  pub format : IsFormat (format_said body)
 
--- the last 8 bytes of a body, which nobody looks at
-abbrev pub spare_in : List ℕ → List ℕ
-spare_in body = drop 40 body
-
--- a body that is written says so, and its last 8 bytes are zeros
+-- a body that is written says so, and has format 2
 pub record IsWritten (body : List ℕ) (done : ℕ) (pending : Option (List ℕ)) (n : ℕ) : Type 0 where
   pub names : Names body done pending n
-  pub spare : spare_in body ≡ replicate {A = ℕ} 8 0
+  pub format : format_said body ≡ 2

@@ -1,5 +1,5 @@
--- What a crash may leave of an image, said without its history: one of some tops, and perhaps a freeze or a seal that
--- was tried.
+-- What a crash may leave of an image, said without its history: one of some tops, and perhaps a freeze, a seal or a
+-- grow that was tried.
 use Rattle.std.specs.Prelude.{◌≡◌, ℕ, ◌⊎◌, List, Contains}
 use Rattle.block_disk.specs.DiskState.{Files}
 use Rattle.flat_image.specs.declared.act.Asked.{Asked}

@@ -1,12 +1,13 @@
 -- What an image without commits has in memory, what holds of it and its files, and what its steps note.
-use Rattle.std.specs.Prelude.{◌≡◌, ℕ, ◌+◌, ◌^◌, ◌≤◌, List, [], ◌∷◌, ◌++◌, length, All, Bool, IsTrue, Option, Some, None, Result, Ok, Err}
+use Rattle.std.specs.Prelude.{◌≡◌, ℕ, ◌+◌, ◌^◌, ◌≤◌, ◌⊎◌, Contains, List, [], ◌∷◌, ◌++◌, length, All, Bool, IsTrue, Option, Some, None, Result, Ok, Err}
 use Rattle.std.specs.Arc.{arc_value}
 use Rattle.block_disk.specs.DiskState.{DiskState, Files}
 use Rattle.block_disk.specs.Claims.{LeavesOnly}
 use Rattle.gate_mark.specs.Mark.{file_of, sequence_in, IsKept, MayHold}
 use Rattle.flat_image.specs.declared.act.Act.{Act}
 use Rattle.flat_image.specs.declared.act.Act.TheVariants.{Fault}
-use Rattle.flat_image.specs.declared.act.Asked.TheVariants.{Nothing}
+use Rattle.flat_image.specs.declared.act.Asked.{Asked}
+use Rattle.flat_image.specs.declared.act.Asked.TheVariants.{Nothing, Sectors}
 use Rattle.flat_image.specs.declared.base.Base.{Base}
 use Rattle.flat_image.specs.Base.{pending_of, IsBase, HasFewStretches}
 use Rattle.flat_image.specs.Entries.{entry}
@@ -20,13 +21,14 @@ use Rattle.top_writer.specs.View.{epoch_of, sectors_of, sequence_of, rows_used, 
 use Rattle.top_writer.specs.Fitting.{TopFits}
 use Rattle.image_core.specs.declared.parts.Parts.{Parts}
 use Rattle.image_core.specs.Numbers.{manifest_file}
-use Rattle.image_core.specs.Manifest.{Names}
+use Rattle.image_core.specs.Manifest.{Names, exact_said}
 use Rattle.image_core.specs.Shows as shows
 use Rattle.image_core.specs.Shows.{IsUnworn}
 use Rattle.image_core.specs.View.{ImageView, AreLayersOf}
 use Rattle.image_core.specs.Pieces.{IsSnapshotOf}
 use Rattle.image_core.specs.Opening.{blank_base, StartsFrom}
 use Rattle.image_core.specs.Standing.{ShowsLeft}
+use Rattle.image_core.specs.FileSets.{GrowTried}
 use Rattle.image_core.specs.MayBe.{KeptStand}
 
 -- the image in memory, seen from above
@@ -44,18 +46,22 @@ parts_view p = record {
 }
 
 -- The image in memory and its files are those of that base, in which nothing is committed or frozen. A crash leaves its
--- manifest, and a top that shows one of these.
-pub record PartsFit (tells : Bool) (disk : DiskState) (p : Parts) (b : Base) (tops : List Stand) : Type 0 where
-  pub sound : shows.IsSound b
+-- manifest, or one that grew to one of these sizes as was tried, and a top that shows one of these. While the manifest has
+-- the older format, layers and top have just the sectors of the image.
+pub record PartsFit (tells : Bool) (disk : DiskState) (p : Parts) (b : Base) (tops : List Stand) (attempts : List Asked) : Type 0 where
+  pub exact : Bool
+  pub sound : shows.IsSound exact b
   pub none_done : b.done ≡ []
   pub none_frozen : b.frozen ≡ None
   pub manifest_is : file_of p.manifest ≡ manifest_file
   pub manifest : IsKept disk p.manifest
-  pub named : (body : List ℕ) → MayHold p.manifest body → Names body (length b.done) (pending_of b.frozen) b.sectors
+  pub format : (body : List ℕ) → MayHold p.manifest body → IsTrue (exact_said body) → IsTrue exact
+  pub named : (body : List ℕ) → MayHold p.manifest body
+      → Names body (length b.done) (pending_of b.frozen) b.sectors ⊎ ((sectors : ℕ) × Contains attempts (Sectors sectors) × GrowTried b.sectors (length b.done) b.frozen sectors body)
   pub lowers : AreLayersOf b.lowers p.lowers
   pub snapshot : IsSnapshotOf (arc_value p.snapshot) p.lowers []
   pub epoch : epoch_of p.top ≡ shows.epoch_of b
-  pub top : TopFits tells disk (shows.head_sectors b) (shows.parent_asked (shows.epoch_of b) b.lowers) p.top (stand b) tops
+  pub top : TopFits tells disk b.sectors (shows.heads_asked exact (shows.epoch_of b) b.lowers) p.top (stand b) tops
 
 -- what a change notes: its act, a fault where the disk failed, and nothing where it was refused
 abbrev pub noted_change : {T : Type 0} → Act → Result T WriteFault → Option Act

@@ -4,7 +4,7 @@ use Rattle.flat_image.specs.declared.base.Base.{Base}
 use Rattle.flat_image.specs.Sheets.{IsImage, flat}
 use Rattle.flat_image.specs.RowCells.{sector_at}
 use Rattle.flat_image.specs.LayerReading.{sheet_in}
-use Rattle.flat_image.specs.History.{History, now, after, committed}
+use Rattle.flat_image.specs.History.{History, now, size, after, committed}
 use Rattle.top_writer.specs.Gaps.{Paints}
 use Rattle.merged_index.specs.Cells.{cells_of}
 use Rattle.image_core.specs.Parts.{parts_view}
@@ -39,6 +39,6 @@ pub record ReadsBelow (base : Base) (history : History) (s : SnapshotView) : Typ
   -- until there are commits
   pub none_done : committed base history ≡ []
   pub named : AreOnShelf (length (base.lowers ++ committed base history)) (cells_of s.index)
-  pub image : IsImage base.sectors (after base history)
-  pub sectors : (i : ℕ) → i < base.sectors → IsGap (now base history) i
+  pub image : IsImage (size base history) (after base history)
+  pub sectors : (i : ℕ) → i < size base history → IsGap (now base history) i
       → sectors_by (base.lowers ++ committed base history) (cells_of s.index) i ≡ slice_index_or (after base history) i []

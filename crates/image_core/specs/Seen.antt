@@ -5,13 +5,14 @@ use Rattle.block_disk.specs.declared.disk.Disk.{Ghosts}
 use Rattle.block_disk.specs.Claims.{LeavesOnly, Quiet}
 use Rattle.gate_mark.specs.Mark.{sequence_in}
 use Rattle.flat_image.specs.declared.act.Act.{Act}
-use Rattle.flat_image.specs.declared.act.Act.TheVariants.{Read, Write, Zero, Flush, Freeze, Seal, Fault}
-use Rattle.flat_image.specs.declared.act.Asked.TheVariants.{Nothing, Uuid}
+use Rattle.flat_image.specs.declared.act.Act.TheVariants.{Read, Write, Zero, Flush, Freeze, Seal, Grow, Fault}
+use Rattle.flat_image.specs.declared.act.Asked.{Asked}
+use Rattle.flat_image.specs.declared.act.Asked.TheVariants.{Nothing, Uuid, Sectors}
 use Rattle.flat_image.specs.declared.base.Base.{Base}
 use Rattle.flat_image.specs.Base.{IsBase, HasFewStretches}
 use Rattle.flat_image.specs.Entries.{entry}
 use Rattle.flat_image.specs.History.{History, now, fault_count, Proper}
-use Rattle.flat_image.specs.Left.{Stand}
+use Rattle.flat_image.specs.Left.{Stand, Blamed}
 use Rattle.top_writer.specs.View.{sequence_of}
 use Rattle.image_core.specs.declared.image.Image.{Image}
 use Rattle.image_core.specs.declared.parts.Parts.{Parts}
@@ -50,7 +51,8 @@ faults_in kind image = kind.faults image.disk
 abbrev pub disk_of : {D : Type 0} → Image D → D
 disk_of image = image.disk
 
--- the image stands for the history, with the tops that a crash leaves of it
+-- the image stands for the history, with the tops that a crash leaves of it, and the sizes to which a grow that failed may
+-- have let it grow
 pub record StandsFor (image : Seen) (base : Base) (history : History) : Type 0 where
   pub base_is : IsBase base
   pub few : HasFewStretches base
@@ -58,10 +60,12 @@ pub record StandsFor (image : Seen) (base : Base) (history : History) : Type 0 w
   pub failed : base.faults + fault_count history ≤ image.faults
   pub steps : image.parts.steps ≡ length history
   pub low : sequence_of image.parts.top ≤ 2 ^ 61 + image.parts.steps
-  pub manifest_low : sequence_in image.parts.manifest ≤ 2 ^ 61
+  pub manifest_low : sequence_in image.parts.manifest ≤ 2 ^ 61 + image.parts.steps
   pub tops : List Stand
-  pub fits : PartsFit image.tells image.state image.parts (now base history) tops
+  pub attempts : List Asked
+  pub fits : PartsFit image.tells image.state image.parts (now base history) tops attempts
   pub kept : All (KeptStand base history) tops
+  pub blamed : All (Blamed history) attempts
 
 -- it stands for some history over some base
 abbrev pub IsImage : Seen → Type 0
@@ -76,14 +80,17 @@ more history number (Some act) = history ++ entry number act ∷ []
 abbrev pub ShowsLeftWith : Base → History → Act → Files → Type 0
 ShowsLeftWith base history act files = (number : ℕ) × ShowsLeft base (history ++ entry number act ∷ []) files
 
--- The files show what a crash may leave within a step that notes an act or none: what it leaves of the history. Of a freeze
--- or a seal it may also leave what it leaves of the history with that act, or with the step's fault.
+-- The files show what a crash may leave within a step that notes an act or none: what it leaves of the history. Of a
+-- freeze, a seal or a grow it may also leave what it leaves of the history with that act, or with the step's fault.
 abbrev pub ShowsLeftWithin : Base → History → Option Act → Files → Type 0
 ShowsLeftWithin base history (Some (Freeze uuid)) files =
     ShowsLeft base history files ⊎ ShowsLeftWith base history (Freeze uuid) files ⊎ ShowsLeftWith base history (Fault (Uuid uuid)) files
 ShowsLeftWithin base history (Some (Seal uuid)) files =
     ShowsLeft base history files ⊎ ShowsLeftWith base history (Seal uuid) files ⊎ ShowsLeftWith base history (Fault (Uuid uuid)) files
+ShowsLeftWithin base history (Some (Grow sectors)) files =
+    ShowsLeft base history files ⊎ ShowsLeftWith base history (Grow sectors) files ⊎ ShowsLeftWith base history (Fault (Sectors sectors)) files
 ShowsLeftWithin base history (Some (Fault (Uuid uuid))) files = ShowsLeft base history files ⊎ ShowsLeftWith base history (Fault (Uuid uuid)) files
+ShowsLeftWithin base history (Some (Fault (Sectors sectors))) files = ShowsLeft base history files ⊎ ShowsLeftWith base history (Fault (Sectors sectors)) files
 ShowsLeftWithin base history (Some (Fault Nothing)) files = ShowsLeft base history files
 ShowsLeftWithin base history (Some (Read at count)) files = ShowsLeft base history files
 ShowsLeftWithin base history (Some (Write at bytes)) files = ShowsLeft base history files

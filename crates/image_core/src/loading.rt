@@ -3,16 +3,17 @@ ghost use Rattle.std.specs.Prelude.{◌≡◌, ℕ, ◌^◌, ◌<◌, ◌≤◌,
 ghost use Rattle.sector_extent.specs.Causes.{Charges};
 ghost use Rattle.block_disk.specs.Claims.{Quiet};
 ghost use Rattle.gate_mark.specs.Mark.{file_of, sequence_in, body_in, IsKept, MayHold};
-ghost use Rattle.flat_image.specs.Stacks.{HaveSize};
 ghost use Rattle.sealed_layer.specs.Layers.{LayerIndex};
 ghost use Rattle.image_core.specs.declared.loading.LoadFault.TheVariants as why;
 ghost use Rattle.image_core.specs.Numbers.{manifest_file};
-ghost use Rattle.image_core.specs.Manifest.{size_said, count_said, epoch_said, uuid_said};
+ghost use Rattle.image_core.specs.Manifest.{size_said, count_said, epoch_said, uuid_said, format_said, exact_said, IsFormat};
+ghost use Rattle.image_core.specs.Shows.{HaveSize};
 ghost use Rattle.image_core.specs.View.{AreLayersOf};
 ghost use Rattle.image_core.specs.Seen.{with_disk, IsLoaded};
 ghost use Rattle.image_core.specs.Loading.{heads_in, IsBareBody, HasManifest, AreStackOrNone, IsLowersReason, IsLoadReason};
 
 use crate::creating::{parent_of, snapshot_of};
+use crate::manifest::FORMAT;
 use crate::parts::{LayerList, Parts};
 use block_disk::Disk;
 use byte_fields::FieldReader;
@@ -22,7 +23,7 @@ use lsmt_header::Head;
 use sealed_layer::Layer;
 use sector_extent::Memory;
 use std::alloc::Global;
-use top_writer::{Top, TopFault, TopReason};
+use top_writer::{Top, TopFault, TopReason, is_size};
 
 /// The number of the manifest.
 const MANIFEST: u32 = 0;
@@ -42,9 +43,10 @@ pub enum LoadFault {
     NoImage,
     /// Its sequence is this one, over 2^61.
     ManifestWorn(u64),
-    /// It says something else than an image without commits, of 1 to 2^31 sectors.
+    /// It says something else than an image without commits, of 1 to 2^31 sectors, or its format is
+    /// neither 0 nor 2.
     ManifestBad,
-    /// A lower layer has other sectors than the manifest says.
+    /// A lower layer has more sectors than the manifest says, or in format 0 other ones.
     SizeDiffers,
     /// The lower layers form no stack.
     Stack(StackFault),
@@ -78,6 +80,7 @@ struct Said {
     epoch: u64,
     uuid: [u8; 16],
     sectors: u64,
+    format: u64,
 }
 
 fn said_in(body: &[u8; 48]) -> Said
@@ -85,23 +88,41 @@ fn said_in(body: &[u8; 48]) -> Said
     ensures epoch { result.epoch ≡ epoch_said body.now }
     ensures uuid { result.uuid ≡ uuid_said body.now }
     ensures sectors { result.sectors ≡ size_said body.now }
+    ensures format { result.format ≡ format_said body.now }
 {
     let mut fields = FieldReader::new(body);
     let count = fields.take_u64_le();
     let epoch = fields.take_u64_le();
     let uuid = *fields.take_bytes();
     let sectors = fields.take_u64_le();
+    let format = fields.take_u64_le();
     Said {
         count,
         epoch,
         uuid,
         sectors,
+        format,
     }
 }
 
-// The sectors that the body of a manifest says, where it is one of an image without commits.
-fn bare_size(body: &[u8; 48]) -> Option<u64>
-    ensures some { IfSome result (λ n. IsBareBody body.now × (n ≡ size_said body.now)) }
+// The sectors of an image without commits, and whether its layers and its top have just as many.
+#[derive(Clone, Copy)]
+struct Bare {
+    sectors: u64,
+    exact: bool,
+}
+
+// The format is one that is known.
+fn is_format(format: u64) -> bool
+    ensures { IsTrue result ↔ IsFormat format }
+{
+    format == 0 || format == FORMAT
+}
+
+// What the body of a manifest says, where it is one of an image without commits.
+fn bare_said(body: &[u8; 48]) -> Option<Bare>
+    ensures some { IfSome result (λ bare. IsBareBody body.now
+        × (bare.sectors ≡ size_said body.now) × (bare.exact ≡ exact_said body.now)) }
     ensures none { IfNone result (¬ IsBareBody body.now) }
 {
     let said = said_in(body);
@@ -114,15 +135,23 @@ fn bare_size(body: &[u8; 48]) -> Option<u64>
     if said.sectors == 0 || said.sectors > MOST_SECTORS {
         return None;
     }
-    Some(said.sectors)
+    let known = is_format(said.format);
+    if !known {
+        return None;
+    }
+    Some(Bare {
+        sectors: said.sectors,
+        exact: said.format == 0,
+    })
 }
 
-// All layers with these heads have so many sectors.
-fn have_size(heads: &[Head], sectors: u64) -> bool
-    ensures { IsTrue result ↔ HaveSize sectors heads.now }
+// All layers with these heads have sectors for an image of so many.
+fn have_size(heads: &[Head], sectors: u64, exact: bool) -> bool
+    ensures { IsTrue result ↔ HaveSize exact sectors heads.now }
 {
     for head in heads {
-        if head.sectors != sectors {
+        let fits = is_size(exact, sectors, head.sectors);
+        if !fits {
             return false;
         }
     }
@@ -140,16 +169,16 @@ fn heads_of(alloc: Global, layers: &[Layer]) -> Result<Vec<Head>, Memory>
     Ok(heads)
 }
 
-// Refuses lower layers that are no stack of so many sectors.
-fn check_lowers(alloc: Global, layers: &[Layer], sectors: u64) -> Result<(), LoadFault>
+// Refuses lower layers that are no stack with sectors for such an image.
+fn check_lowers(alloc: Global, layers: &[Layer], bare: Bare) -> Result<(), LoadFault>
     requires few { length layers.now ≤ 255 }
-    ensures ok { OnOk result (HaveSize sectors (heads_in layers.now) × AreStackOrNone layers.now) }
-    ensures reason { IfErr result (IsLowersReason sectors layers.now) }
+    ensures ok { OnOk result (HaveSize bare.exact bare.sectors (heads_in layers.now) × AreStackOrNone layers.now) }
+    ensures reason { IfErr result (IsLowersReason bare.exact bare.sectors layers.now) }
 {
     let Ok(heads) = heads_of(alloc, layers) else {
         return Err(LoadFault::Memory);
     };
-    if !have_size(heads.as_slice(), sectors) {
+    if !have_size(heads.as_slice(), bare.sectors, bare.exact) {
         return Err(LoadFault::SizeDiffers);
     }
     if layers.is_empty() {
@@ -177,12 +206,12 @@ impl Parts {
         ensures cause { Charges D.faults disk.old disk.new (IsErrOf result why.Failed) }
     {
         let manifest = load_manifest(disk)?;
-        let Some(sectors) = bare_size(&manifest.get()) else {
+        let Some(bare) = bare_said(&manifest.get()) else {
             return Err(LoadFault::ManifestBad);
         };
-        check_lowers(alloc, lowers.as_slice(), sectors)?;
+        check_lowers(alloc, lowers.as_slice(), bare)?;
         let parent = parent_of(lowers.as_slice());
-        let top = match Top::load(alloc, disk, 0, sectors, Some(parent)) {
+        let top = match Top::load(alloc, disk, 0, bare.sectors, bare.exact, Some(parent)) {
             Ok(top) => top,
             Err(TopFault::Memory) => return Err(LoadFault::Memory),
             Err(TopFault::Failed) => return Err(LoadFault::Failed),

@@ -1,27 +1,31 @@
 //! The body of the manifest.
-ghost use Rattle.std.specs.Prelude.{◌≡◌, ℕ, None, replicate};
-ghost use Rattle.image_core.specs.Manifest.{count_said, epoch_said, uuid_said, size_said, spare_in, IsWritten};
+ghost use Rattle.std.specs.Prelude.{◌≡◌, ℕ, None};
+ghost use Rattle.image_core.specs.Manifest.{count_said, epoch_said, uuid_said, size_said, format_said, IsWritten};
 
 use byte_fields::FieldWriter;
 
+/// The format of a manifest that is written. The older one is 0.
+pub(crate) const FORMAT: u64 = 2;
+
 // The body that says so many committed layers, the epoch of the top, the uuid of the commit in
-// progress, and the sectors of the image. It ends with zeros.
+// progress, and the sectors of the image.
 fn body_of(committed: u64, epoch: u64, uuid: &[u8; 16], sectors: u64) -> [u8; 48]
     ensures count { count_said result ≡ committed }
     ensures epoch { epoch_said result ≡ epoch }
     ensures uuid { uuid_said result ≡ uuid.now }
     ensures size { size_said result ≡ sectors }
-    ensures spare { spare_in result ≡ replicate {A = ℕ} 8 0 }
+    ensures format { format_said result ≡ 2 }
 {
     let mut body = FieldWriter::new();
     body.put_u64_le(committed);
     body.put_u64_le(epoch);
     body.put_bytes(uuid);
     body.put_u64_le(sectors);
+    body.put_u64_le(FORMAT);
     body.finish()
 }
 
-// The body of a new image.
+// The body of an image of so many sectors without commits.
 pub(crate) fn new_body(sectors: u64) -> [u8; 48]
     ensures { IsWritten result 0 None sectors }
 {

@@ -1,6 +1,6 @@
 -- Counts of faults along a chain of calls.
-use Rattle.std.proofs.Common.{◌≡◌, ℕ, ◌<◌, ◌≤◌, ap, arith}
-use Rattle.std.specs.Prelude.{Result, Ok, Err}
+use Rattle.std.proofs.Common.{◌≡◌, ℕ, ap, arith}
+use Rattle.std.specs.Prelude.{Ok, Err}
 use Rattle.std.specs.Result.{IsErrOf}
 use Rattle.sector_extent.specs.Causes.{Charges}
 

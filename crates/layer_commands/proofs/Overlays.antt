@@ -1,27 +1,31 @@
 -- Layers painted one after another over some sectors, as bytes.
-use Rattle.std.proofs.Common.{◌≡◌, ℕ, zero, suc, ◌+◌, ◌-◌, ◌*◌, ◌≤◌, List, [], ◌∷◌, ◌++◌, length, map, take, drop, refl, sym, ap, ◌∙◌, arith, length-drop}
+use Rattle.std.proofs.Common.{◌≡◌, ℕ, zero, suc, ◌+◌, ◌-◌, ◌*◌, ◌≤◌, List, [], ◌∷◌, ◌++◌, length, map, take, drop, refl, sym, ap, ◌∙◌, arith, length-drop, All}
 use Rattle.std.proofs.Math.ListN.{replicate}
 use Rattle.std.specs.List.{fold, range_with_len}
-use Rattle.std.proofs.lemmas.List.{take-append-le, drop-append-le, take_at, drop_at, length-replicate, length-take-le, replicate-append-replicate, take-append-drop, nil_from_length}
+use Rattle.std.proofs.lemmas.List.{take-append-le, drop-append-le, take_at, drop_at, length-replicate, length-take-le, take_all, replicate-append-replicate, take-append-drop, nil_from_length}
+use Rattle.std.proofs.lemmas.List.Elements.{All-nil, All-cons, All-head, All-tail}
 use Rattle.seg_mapping.specs.declared.Row.{Row}
 use Rattle.lsmt_header.specs.declared.head.Head.{Head}
-use Rattle.flat_image.specs.Sheets.{Cell, IsCell, zero_sector, painted, paint, bytes_of, image_in}
-use Rattle.flat_image.specs.RowCells.{cell_of}
+use Rattle.flat_image.specs.Sheets.{Cell, Hole, IsCell, zero_sector, painted, paint, bytes_of, image_in}
+use Rattle.flat_image.specs.RowCells.{cell_of, sheet_of}
 use Rattle.flat_image.specs.LayerFiles.{LayerOf}
-use Rattle.flat_image.proofs.Runs.{run, bytes_of-paint, run-split, length-run, length-painted}
-use Rattle.flat_image.proofs.CellLaws.{whole_cells}
+use Rattle.flat_image.proofs.Runs.{run, bytes_of-paint, run-split, run-holes, length-run, length-painted}
+use Rattle.flat_image.proofs.Painting.{FitsIn, flat-over}
+use Rattle.flat_image.proofs.LayerLaws.{IsSheet-layer}
+use Rattle.flat_image.proofs.CellLaws.{whole_cells, hole_past}
 use Rattle.sealed_layer.specs.Layers.{LayerIndex}
-use Rattle.layer_commands.specs.Flattening.{AreTold, layer_over, overlaid, flat_part, sheets_by, told_flat}
+use Rattle.layer_commands.specs.Runs.{zeros}
+use Rattle.layer_commands.specs.Flattening.{AreTold, FitIn, layer_over, overlaid, flat_part, sheets_by, told_flat}
 
 step_of : (m : ℕ) → 512 + 512 * m ≡ 512 * suc m
 step_of m = omega arith
 
 -- ---- one layer
 
-over_run : (file : List ℕ) (rows : List Row) (at count : ℕ) (old : List ℕ) → layer_over file rows at count old ≡ run (cell_of file rows) at count old
+pub over_run : (file : List ℕ) (rows : List Row) (at count : ℕ) (old : List ℕ) → layer_over file rows at count old ≡ run (cell_of file rows) at count old
 over_run file rows at count old = bytes_of-paint (cell_of file rows) at count old
 
-index_inside : (file : List ℕ) (head : Head) (rows : List Row) → LayerOf file head rows → head.index_at ≤ length file
+pub index_inside : (file : List ℕ) (head : Head) (rows : List Row) → LayerOf file head rows → head.index_at ≤ length file
 index_inside file head rows layer = let end = layer.index.end in omega (arith, end)
 
 -- each cell of a layer is whole
@@ -38,7 +42,7 @@ run-append f at (suc n) xs ys size =
     ∙ ap (λ (bytes : List ℕ). painted (take 512 xs) (f at) ++ run f (at + 1) n bytes) (drop-append-le 512 xs ys long)
     ∙ ap (λ (bytes : List ℕ). painted (take 512 xs) (f at) ++ bytes) (run-append f (at + 1) n (drop 512 xs) ys rest)
 
-run-parts : (f : ℕ → Cell) (at a b : ℕ) (xs ys : List ℕ) → length xs ≡ 512 * a → run f at (a + b) (xs ++ ys) ≡ run f at a xs ++ run f (at + a) b ys
+pub run-parts : (f : ℕ → Cell) (at a b : ℕ) (xs ys : List ℕ) → length xs ≡ 512 * a → run f at (a + b) (xs ++ ys) ≡ run f at a xs ++ run f (at + a) b ys
 run-parts f at a b xs ys size =
     run-split f at a b (xs ++ ys)
     ∙ ap (λ (bytes : List ℕ). bytes ++ run f (at + a) b (drop (512 * a) (xs ++ ys))) (run-append f at a xs ys size)
@@ -83,32 +87,41 @@ bytes_of-image_in (suc n) old size =
     ap (λ (bytes : List ℕ). take 512 old ++ bytes) (bytes_of-image_in n (drop 512 old) (omega (arith, size, step_of n, length-drop 512 old)))
     ∙ take-append-drop 512 old
 
-paint-run : (f : ℕ → Cell) (at n : ℕ) (old : List ℕ) → ((k : ℕ) → IsCell (f k)) → length old ≡ 512 * n
-    → paint (image_in n old) (map f (range_with_len at n)) ≡ image_in n (run f at n old)
-paint-run f at zero old whole size = refl
-paint-run f at (suc n) old whole size =
+paint-run : (f : ℕ → Cell) (at m n : ℕ) (old : List ℕ) → m ≤ n → ((k : ℕ) → IsCell (f k)) → ((k : ℕ) → at + m ≤ k → f k ≡ Hole) → length old ≡ 512 * n
+    → paint (image_in n old) (map f (range_with_len at m)) ≡ image_in n (run f at n old)
+paint-run f at zero zero old few whole behind size = refl
+paint-run f at (suc m) zero old few whole behind size = absurd (omega (arith, few))
+paint-run f at zero (suc n) old few whole behind size =
+    ap (λ (bytes : List ℕ). image_in (suc n) bytes)
+    (sym (run-holes f at (suc n) old (λ k from to. behind k (omega (arith, from))) ∙ take_all (512 * suc n) old (omega (arith, size))))
+paint-run f at (suc m) (suc n) old few whole behind size =
     let here : List ℕ = painted (take 512 old) (f at) in
     let rest : List ℕ = run f (at + 1) n (drop 512 old) in
     let long : length here ≡ 512 = length-painted (take 512 old) (f at) (length-take-le 512 old (omega (arith, size, step_of n))) (whole at) in
-    ap (λ (image : List (List ℕ)). here ∷ image) (paint-run f (at + 1) n (drop 512 old) whole (omega (arith, size, step_of n, length-drop 512 old)))
+    ap (λ (image : List (List ℕ)). here ∷ image)
+    (paint-run f (at + 1) m n (drop 512 old) (omega (arith, few)) whole (λ k from. behind k (omega (arith, from))) (omega (arith, size, step_of n, length-drop 512 old)))
     ∙ ap (λ (sector : List ℕ). sector ∷ image_in n rest) (sym (take_at here rest 512 long))
     ∙ ap (λ (bytes : List ℕ). take 512 (here ++ rest) ∷ image_in n bytes) (sym (drop_at here rest 512 long))
 
-folded : (n : ℕ) (files : List (List ℕ)) (layers : List LayerIndex) (old : List ℕ) → AreTold files layers → length old ≡ 512 * n
-    → bytes_of (fold paint (image_in n old) (sheets_by n files layers)) ≡ overlaid files layers 0 n old
-folded n [] layers old told size = bytes_of-image_in n old size
-folded n (file ∷ files) [] old told size = absurd told
-folded n (file ∷ files) (layer ∷ layers) old told size =
+-- past its sectors a layer has holes
+behind-layer : (file : List ℕ) (head : Head) (rows : List Row) → LayerOf file head rows → (k : ℕ) → head.sectors ≤ k → cell_of file rows k ≡ Hole
+behind-layer file head rows layer k past =
+    hole_past file head.sectors head.index_at 0 rows k layer.sound past
+
+folded : (n : ℕ) (files : List (List ℕ)) (layers : List LayerIndex) (old : List ℕ) → AreTold files layers → FitIn n layers → length old ≡ 512 * n
+    → bytes_of (fold paint (image_in n old) (sheets_by files layers)) ≡ overlaid files layers 0 n old
+folded n [] layers old told fit size = bytes_of-image_in n old size
+folded n (file ∷ files) [] old told fit size = absurd told
+folded n (file ∷ files) (layer ∷ layers) old told fit size =
     let f : ℕ → Cell = cell_of file layer.rows in
+    let P : LayerIndex → Type 0 = λ layer. layer.head.sectors ≤ n in
     let whole = told_cells file layer.head layer.rows told.0 in
-    ap (λ (image : List (List ℕ)). bytes_of (fold paint image (sheets_by n files layers))) (paint-run f 0 n old whole size)
-    ∙ folded n files layers (run f 0 n old) told.1 (length-run f 0 n old whole (omega (arith, size)))
+    ap (λ (image : List (List ℕ)). bytes_of (fold paint image (sheets_by files layers)))
+    (paint-run f 0 layer.head.sectors n old (All-head P layer layers fit) whole (λ k past. behind-layer file layer.head layer.rows told.0 k (omega (arith, past))) size)
+    ∙ folded n files layers (run f 0 n old) told.1 (All-tail P layer layers fit) (length-run f 0 n old whole (omega (arith, size)))
     ∙ ap (λ (bytes : List ℕ). overlaid files layers 0 n bytes) (sym (over_run file layer.rows 0 n old))
 
-abbrev zeros : ℕ → List ℕ
-zeros n = replicate {A = ℕ} (512 * n) 0
-
-zeros-parts : (a b : ℕ) → zeros (a + b) ≡ zeros a ++ zeros b
+pub zeros-parts : (a b : ℕ) → zeros (a + b) ≡ zeros a ++ zeros b
 zeros-parts a b =
     ap (λ (k : ℕ). replicate {A = ℕ} k 0) (let e : 512 * (a + b) ≡ 512 * a + 512 * b = omega arith in e)
     ∙ sym (replicate-append-replicate (512 * a) (512 * b) 0)
@@ -128,18 +141,30 @@ image_in-zeros (suc n) =
 
 -- ---- the flat image and its parts
 
-pub whole_is : (n : ℕ) (files : List (List ℕ)) (layers : List LayerIndex) → AreTold files layers → told_flat n files layers ≡ flat_part files layers 0 n
-whole_is n files layers told =
-    ap (λ (image : List (List ℕ)). bytes_of (fold paint image (sheets_by n files layers))) (sym (image_in-zeros n))
-    ∙ folded n files layers (zeros n) told (length-replicate {A = ℕ} (512 * n) 0)
+sheets-fit : (n : ℕ) (files : List (List ℕ)) (layers : List LayerIndex) → AreTold files layers → FitIn n layers → All (FitsIn n) (sheets_by files layers)
+sheets-fit n [] layers told fit = All-nil (FitsIn n)
+sheets-fit n (file ∷ files) [] told fit = All-nil (FitsIn n)
+sheets-fit n (file ∷ files) (layer ∷ layers) told fit =
+    let P : LayerIndex → Type 0 = λ layer. layer.head.sectors ≤ n in
+    let sheet : List Cell = sheet_of file layer.head.sectors layer.rows in
+    let size : length sheet ≡ layer.head.sectors = (IsSheet-layer file layer.head sheet (record { rows = layer.rows; layer = told.0; sheet_is = refl })).count in
+    let here : layer.head.sectors ≤ n = All-head P layer layers fit in
+    let fits : length sheet ≤ n = omega (arith, size, here) in
+    All-cons (FitsIn n) sheet (sheets_by files layers) fits (sheets-fit n files layers told.1 (All-tail P layer layers fit))
 
-pub length-flat : (n : ℕ) (files : List (List ℕ)) (layers : List LayerIndex) → AreTold files layers → length (told_flat n files layers) ≡ 512 * n
-length-flat n files layers told =
-    ap (length {A = ℕ}) (whole_is n files layers told) ∙ length-overlaid files layers 0 n (zeros n) told (length-replicate {A = ℕ} (512 * n) 0)
+pub whole_is : (n : ℕ) (files : List (List ℕ)) (layers : List LayerIndex) → AreTold files layers → FitIn n layers → told_flat n files layers ≡ flat_part files layers 0 n
+whole_is n files layers told fit =
+    ap bytes_of (flat-over n (sheets_by files layers) (sheets-fit n files layers told fit))
+    ∙ ap (λ (image : List (List ℕ)). bytes_of (fold paint image (sheets_by files layers))) (sym (image_in-zeros n))
+    ∙ folded n files layers (zeros n) told fit (length-replicate {A = ℕ} (512 * n) 0)
 
-pub part_is : (n at count : ℕ) (files : List (List ℕ)) (layers : List LayerIndex) → AreTold files layers → at + count ≤ n
+pub length-flat : (n : ℕ) (files : List (List ℕ)) (layers : List LayerIndex) → AreTold files layers → FitIn n layers → length (told_flat n files layers) ≡ 512 * n
+length-flat n files layers told fit =
+    ap (length {A = ℕ}) (whole_is n files layers told fit) ∙ length-overlaid files layers 0 n (zeros n) told (length-replicate {A = ℕ} (512 * n) 0)
+
+pub part_is : (n at count : ℕ) (files : List (List ℕ)) (layers : List LayerIndex) → AreTold files layers → FitIn n layers → at + count ≤ n
     → take (512 * count) (drop (512 * at) (told_flat n files layers)) ≡ flat_part files layers at count
-part_is n at count files layers told within =
+part_is n at count files layers told fit within =
     let rest : ℕ = n - (at + count) in
     let sum : n ≡ at + (count + rest) = omega arith in
     let first : List ℕ = overlaid files layers 0 at (zeros at) in
@@ -147,7 +172,7 @@ part_is n at count files layers told within =
     let third : List ℕ = overlaid files layers (0 + at + count) rest (zeros rest) in
     let sizes : (k : ℕ) → length (zeros k) ≡ 512 * k = λ k. length-replicate {A = ℕ} (512 * k) 0 in
     let parts : told_flat n files layers ≡ first ++ (second ++ third) =
-    whole_is n files layers told
+    whole_is n files layers told fit
     ∙ ap (λ (k : ℕ). overlaid files layers 0 k (zeros k)) sum
     ∙ ap (λ (bytes : List ℕ). overlaid files layers 0 (at + (count + rest)) bytes) (zeros-parts at (count + rest))
     ∙ overlaid-parts files layers 0 at (count + rest) (zeros at) (zeros (count + rest)) told (sizes at) (sizes (count + rest))

@@ -1,16 +1,18 @@
 -- The flat image piece by piece.
-use Rattle.std.proofs.Common.{◌≡◌, ℕ, zero, suc, ◌+◌, ◌*◌, ◌<◌, ◌≤◌, List, [], ◌∷◌, ◌++◌, length, take, drop, get_or, refl, sym, ap, ◌∙◌, subst, arith}
-use Rattle.std.specs.Prelude.{Option, Some, None, IfSome}
+use Rattle.std.proofs.Common.{◌≡◌, ℕ, zero, suc, ◌+◌, ◌-◌, ◌*◌, ◌<◌, ◌≤◌, List, [], ◌∷◌, ◌++◌, length, take, drop, get_or, refl, sym, ap, ◌∙◌, subst, arith}
+use Rattle.std.specs.Prelude.{Option, Some, None, IfSome, slice_get}
 use Rattle.std.specs.Io.KnownBytes.{Appends}
 use Rattle.std.proofs.KnownBytes.{Appends-trans}
 use Rattle.std.proofs.Math.Seq.{take-add}
 use Rattle.std.proofs.lemmas.List.{drop_all, drop_more, take_all, take-append-drop}
+use Rattle.std.proofs.lemmas.Option.{slice_get-get_or, slice_get_within, get_or_from_slice_get}
 use Rattle.byte_ports.specs.Ports.{AppendsFront}
 use Rattle.byte_ports.proofs.Chains.{AppendsFront-after, AppendsFront-more}
 use Rattle.layer_shelf.specs.Shelves.{file_at}
 use Rattle.flat_image.specs.LayerFiles.{LayerOf}
+use Rattle.flat_image.proofs.StackSizes.{uppermost-at}
 use Rattle.sealed_layer.specs.Layers.{LayerIndex}
-use Rattle.layer_commands.specs.Flattening.{AreTold, overlaid, layer_over, flat_part, told_flat}
+use Rattle.layer_commands.specs.Flattening.{AreTold, FitIn, overlaid, layer_over, flat_part, told_flat, upper_sectors}
 use Rattle.layer_commands.proofs.Overlays.{part_is, length-flat}
 
 -- ---- what a shelf tells
@@ -60,29 +62,44 @@ overlaid-end files layers k at count old told past =
 
 -- ---- what is written
 
-joined : (n at count : ℕ) (files : List (List ℕ)) (layers : List LayerIndex) → AreTold files layers → at + count ≤ n
+joined : (n at count : ℕ) (files : List (List ℕ)) (layers : List LayerIndex) → AreTold files layers → FitIn n layers → at + count ≤ n
     → take (512 * at) (told_flat n files layers) ++ flat_part files layers at count ≡ take (512 * (at + count)) (told_flat n files layers)
-joined n at count files layers told within =
+joined n at count files layers told fit within =
     let whole : List ℕ = told_flat n files layers in
-    ap (λ (bytes : List ℕ). take (512 * at) whole ++ bytes) (sym (part_is n at count files layers told within))
+    ap (λ (bytes : List ℕ). take (512 * at) whole ++ bytes) (sym (part_is n at count files layers told fit within))
     ∙ sym (take-add (512 * at) (512 * count) whole)
     ∙ ap (λ (k : ℕ). take k whole) (let e : 512 * at + 512 * count ≡ 512 * (at + count) = omega arith in e)
 
-pub piece_done : (a b c : Option (List ℕ)) (n at count : ℕ) (files : List (List ℕ)) (layers : List LayerIndex) → AreTold files layers → at + count ≤ n
+pub piece_done : (a b c : Option (List ℕ)) (n at count : ℕ) (files : List (List ℕ)) (layers : List LayerIndex) → AreTold files layers → FitIn n layers → at + count ≤ n
     → Appends a b (take (512 * at) (told_flat n files layers)) → Appends b c (flat_part files layers at count) → Appends a c (take (512 * (at + count)) (told_flat n files layers))
-piece_done a b c n at count files layers told within before piece =
-    subst (Appends a c) (joined n at count files layers told within) (Appends-trans a b c _ _ before piece)
+piece_done a b c n at count files layers told fit within before piece =
+    subst (Appends a c) (joined n at count files layers told fit within) (Appends-trans a b c _ _ before piece)
 
 front_of : (a b : Option (List ℕ)) (k : ℕ) (whole : List ℕ) → AppendsFront a b (take k whole) → AppendsFront a b whole
 front_of a b k whole front = subst (AppendsFront a b) (take-append-drop k whole) (AppendsFront-more a b (take k whole) (drop k whole) front)
 
-pub piece_front : (a b c : Option (List ℕ)) (n at count : ℕ) (files : List (List ℕ)) (layers : List LayerIndex) → AreTold files layers → at + count ≤ n
+pub piece_front : (a b c : Option (List ℕ)) (n at count : ℕ) (files : List (List ℕ)) (layers : List LayerIndex) → AreTold files layers → FitIn n layers → at + count ≤ n
     → Appends a b (take (512 * at) (told_flat n files layers)) → AppendsFront b c (flat_part files layers at count) → AppendsFront a c (told_flat n files layers)
-piece_front a b c n at count files layers told within before piece =
+piece_front a b c n at count files layers told fit within before piece =
     front_of a c (512 * (at + count)) (told_flat n files layers)
-    (subst (AppendsFront a c) (joined n at count files layers told within) (AppendsFront-after a b c _ _ before piece))
+    (subst (AppendsFront a c) (joined n at count files layers told fit within) (AppendsFront-after a b c _ _ before piece))
 
-pub all_done : (a b : Option (List ℕ)) (n at : ℕ) (files : List (List ℕ)) (layers : List LayerIndex) → AreTold files layers → n ≤ at
+pub all_done : (a b : Option (List ℕ)) (n at : ℕ) (files : List (List ℕ)) (layers : List LayerIndex) → AreTold files layers → FitIn n layers → n ≤ at
     → Appends a b (take (512 * at) (told_flat n files layers)) → Appends a b (told_flat n files layers)
-all_done a b n at files layers told past before =
-    subst (Appends a b) (take_all (512 * at) (told_flat n files layers) (omega (arith, length-flat n files layers told))) before
+all_done a b n at files layers told fit past before =
+    subst (Appends a b) (take_all (512 * at) (told_flat n files layers) (omega (arith, length-flat n files layers told fit))) before
+
+-- ---- the sectors of a stack
+
+pub last_sectors : (layers : List LayerIndex) (layer : LayerIndex) → slice_get layers (length layers - 1) ≡ Some layer → layer.head.sectors ≡ upper_sectors layers
+last_sectors layers layer is =
+    let within = slice_get_within layers (length layers - 1) layer is in
+    sym (uppermost-at (λ (l : LayerIndex). l.head.sectors) 0 layers (length layers - 1) layer (omega (arith, within))
+    ∙ ap (λ (l : LayerIndex). l.head.sectors) (get_or_from_slice_get layers (length layers - 1) layer layer is))
+
+pub none_last : (layers : List LayerIndex) → slice_get layers (length layers - 1) ≡ None → 0 ≡ upper_sectors layers
+none_last [] is = refl
+none_last (layer ∷ layers) is =
+    let all : List LayerIndex = layer ∷ layers in
+    let there : slice_get all (length all - 1) ≡ Some (get_or all (length all - 1) layer) = slice_get-get_or all (length all - 1) layer (omega arith) in
+    absurd (cc)

@@ -1,8 +1,6 @@
 -- Layers that are read one after another.
-use Rattle.std.proofs.Common.{◌≡◌, ℕ, ◌+◌, ◌<◌, ◌≤◌, List, [], ◌∷◌, ◌++◌, length, map, take, refl, sym, ap, ◌∙◌, subst, arith}
-use Rattle.std.specs.Prelude.{Option, IfSome, Err}
-use Rattle.std.specs.Result.{IsErrOf}
-use Rattle.sector_extent.specs.Causes.{Charges}
+use Rattle.std.proofs.Common.{◌≡◌, ℕ, ◌+◌, ◌<◌, ◌≤◌, List, [], ◌∷◌, ◌++◌, length, map, take, sym, ap, ◌∙◌, subst, arith}
+use Rattle.std.specs.Prelude.{Option, IfSome}
 use Rattle.lsmt_header.specs.declared.head.Head.{Head}
 use Rattle.std.proofs.lemmas.List.{length-map}
 use Rattle.std.proofs.lemmas.List.{take_more, take_all}
@@ -13,15 +11,11 @@ use Rattle.layer_stack.specs.declared.fault.StackFault.TheVariants as stack
 use Rattle.layer_stack.specs.Faults.{IsStackFault}
 use Rattle.sealed_layer.specs.Layers.{LayerIndex}
 use Rattle.sealed_layer.specs.LayerFaults.{IsLayerFault}
-use Rattle.sealed_layer.specs.declared.fault.LayerFault.{LayerFault}
-use Rattle.sealed_layer.specs.declared.fault.LayerFault.TheVariants as f
 use Rattle.layer_commands.specs.declared.refusal.Refusal.{Refusal}
 use Rattle.layer_commands.specs.declared.refusal.Refusal.TheVariants as refused
-use Rattle.layer_commands.specs.Prints.{LayerSheet, AreLayers, heads_of}
 use Rattle.layer_commands.specs.Causes.{IsOfCount, StopsAt}
 use Rattle.layer_commands.specs.Flattening.{AreTold}
 use Rattle.layer_commands.specs.Reading.{AreFilesRefused, IsFileRefusal, IsStackRefusal}
-use Rattle.layer_commands.proofs.Charged.{charges_as}
 use Rattle.layer_commands.proofs.ToldLayers.{layers_of, told_layers, told_heads}
 use Rattle.layer_commands.proofs.Pieces.{IfSome-at, IfSome-each}
 

@@ -1,10 +1,8 @@
 -- What the commands over a shelf have written, and why they are refused.
-use Rattle.std.proofs.Common.{◌≡◌, ℕ, ◌<◌, false, List, [], ◌∷◌, length, map, refl, sym, ap, ◌∙◌, subst, arith, All, inl, inr}
-use Rattle.std.specs.Prelude.{Option, Some, None, ◌⊎◌, IfSome, Result, Ok, Err, IfErr, OnErr, slice_get}
+use Rattle.std.proofs.Common.{◌≡◌, ℕ, ◌<◌, false, List, [], length, map, sym, ap, ◌∙◌, subst, arith, inl, inr}
+use Rattle.std.specs.Prelude.{Option, None, ◌⊎◌, IfSome, Result, Ok, Err, IfErr, OnErr}
 use Rattle.std.specs.Io.KnownBytes.{Appends}
 use Rattle.std.proofs.KnownBytes.{Consumes-nil, Keeps-refl}
-use Rattle.std.proofs.lemmas.List.{length-map}
-use Rattle.std.proofs.lemmas.List.Elements.{All-head, All-tail, All-cons, All-nil}
 use Rattle.byte_ports.specs.Ports.{AppendsFront}
 use Rattle.layer_shelf.specs.Shelves.{file_at}
 use Rattle.lsmt_header.specs.declared.head.Head.{Head}
@@ -19,7 +17,7 @@ use Rattle.layer_commands.specs.declared.refusal.Refusal.TheVariants as refused
 use Rattle.layer_commands.specs.Reports.{info_lines, stack_lines}
 use Rattle.layer_commands.specs.Causes.{Cause, PrintsAll, PrintsFront}
 use Rattle.layer_commands.specs.Ports.{Ports, TakesAtMost, shelf_ports}
-use Rattle.layer_commands.specs.Flattening.{AreTold, told_flat}
+use Rattle.layer_commands.specs.Flattening.{AreTold, told_flat, upper_sectors}
 use Rattle.layer_commands.specs.Reading.{IsFileRefusal, IsStackRefusal}
 use Rattle.layer_commands.proofs.ToldLayers.{layers_of, one_file, told_layers, told_heads, told_image}
 use Rattle.layer_commands.proofs.Pieces.{IfSome-at, IfSome-each}
@@ -69,39 +67,14 @@ sink_refused (Ok value) command before now old new text is front prints = tt
 sink_refused (Err refusal) command before now old new text is front prints =
     subst (λ (refusal : Refusal). Cause command before now refusal) (sym is) (prints front)
 
-some_of : (layers : List LayerIndex) → Legal (map (λ layer. layer.head) layers) → 0 < length layers
-some_of layers legal = let some = legal.some in omega (arith, some, length-map layers (λ layer. layer.head))
-
-sizes_of : (m n : ℕ) → n ≡ m → (layers : List LayerIndex) → All (λ head. head.sectors ≡ n) (map (λ layer. layer.head) layers) → All (λ layer. layer.head.sectors ≡ m) layers
-sizes_of m n same [] sizes = All-nil (λ layer. layer.head.sectors ≡ m)
-sizes_of m n same (layer ∷ layers) sizes =
-    let P : Head → Type 0 = λ head. head.sectors ≡ n in
-    All-cons (λ layer. layer.head.sectors ≡ m) layer layers (All-head P layer.head (map (λ layer. layer.head) layers) sizes ∙ same)
-    (sizes_of m n same layers (All-tail P layer.head (map (λ layer. layer.head) layers) sizes))
-
-pub legal_sizes : (first : LayerIndex) (rest : List LayerIndex) → Legal (map (λ layer. layer.head) (first ∷ rest)) → All (λ layer. layer.head.sectors ≡ first.head.sectors) (first ∷ rest)
-legal_sizes first rest legal =
-    let n : ℕ = legal.sizes.0 in
-    let P : Head → Type 0 = λ head. head.sectors ≡ n in
-    let Q : LayerIndex → Type 0 = λ layer. layer.head.sectors ≡ first.head.sectors in
-    let here : first.head.sectors ≡ n = All-head P first.head (map (λ layer. layer.head) rest) legal.sizes.1 in
-    sizes_of first.head.sectors n (sym here) (first ∷ rest) legal.sizes.1
-
-pub legal_first : (layers : List LayerIndex) (first : LayerIndex) → slice_get layers 0 ≡ Some first → Legal (map (λ layer. layer.head) layers)
-    → All (λ layer. layer.head.sectors ≡ first.head.sectors) layers
-legal_first [] first is legal = absurd (let some = legal.some in omega (arith, some))
-legal_first (layer ∷ rest) first is legal =
-    let same : layer ≡ first = cc in
-    subst (λ (one : LayerIndex). All (λ other. other.head.sectors ≡ one.head.sectors) (layer ∷ rest)) same (legal_sizes layer rest legal)
-
 pub flatten_done : (files files' : Option (List (List ℕ))) (layers : List LayerIndex) (n count count' before now : ℕ) (old new : Option (List ℕ)) (s s' : ℕ)
-    → IfSome files (λ list. AreTold list layers) → Legal (map (λ layer. layer.head) layers) → All (λ layer. layer.head.sectors ≡ n) layers
+    → IfSome files (λ list. AreTold list layers) → Legal (map (λ layer. layer.head) layers) → n ≡ upper_sectors layers
     → IfSome files (λ list. Appends old new (told_flat n list layers)) → PrintsAll (Flatten false) (shelf_ports files count before old s) (shelf_ports files' count' now new s')
-flatten_done files files' layers n count count' before now old new s s' told legal sizes written =
+flatten_done files files' layers n count count' before now old new s s' told legal size written =
     IfSome-each files (λ list e.
     let are : AreTold list layers = IfSome-at files (λ list. AreTold list layers) list e told in (
       told_flat n list layers,
-      (layers_of list layers, told_layers list layers are, subst Legal (sym (told_heads list layers are)) legal, sym (told_image n list layers are sizes (some_of layers legal))),
+      (layers_of list layers, told_layers list layers are, subst Legal (sym (told_heads list layers are)) legal, sym (told_image n list layers are size)),
       IfSome-at files (λ list. Appends old new (told_flat n list layers)) list e written,
     ))
 
@@ -124,13 +97,13 @@ info_done files files' layer k count count' before now old new s s' text counted
     (text, (record { head = layer.head; sheet = _ }, omega (arith, whole), one_file (file_at list k) layer here, is), written))
 
 pub flatten_front : (files files' : Option (List (List ℕ))) (layers : List LayerIndex) (n count count' before now : ℕ) (old new : Option (List ℕ)) (s s' : ℕ)
-    → IfSome files (λ list. AreTold list layers) → Legal (map (λ layer. layer.head) layers) → All (λ layer. layer.head.sectors ≡ n) layers
+    → IfSome files (λ list. AreTold list layers) → Legal (map (λ layer. layer.head) layers) → n ≡ upper_sectors layers
     → IfSome files (λ list. AppendsFront old new (told_flat n list layers)) → PrintsFront (Flatten false) (shelf_ports files count before old s) (shelf_ports files' count' now new s')
-flatten_front files files' layers n count count' before now old new s s' told legal sizes written =
+flatten_front files files' layers n count count' before now old new s s' told legal size written =
     IfSome-each files (λ list e.
     let are : AreTold list layers = IfSome-at files (λ list. AreTold list layers) list e told in (
       told_flat n list layers,
-      (layers_of list layers, told_layers list layers are, subst Legal (sym (told_heads list layers are)) legal, sym (told_image n list layers are sizes (some_of layers legal))),
+      (layers_of list layers, told_layers list layers are, subst Legal (sym (told_heads list layers are)) legal, sym (told_image n list layers are size)),
       IfSome-at files (λ list. AppendsFront old new (told_flat n list layers)) list e written,
     ))
 

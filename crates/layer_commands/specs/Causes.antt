@@ -1,5 +1,5 @@
 -- When a command over layers is refused, and what it has written then.
-use Rattle.std.specs.Prelude.{◌≡◌, ◌≢◌, ℕ, ◌+◌, ◌^◌, ◌<◌, ◌≤◌, ◌⊎◌, ◌↔◌, true, false, List, length, take, Option, IfSome, ⊤}
+use Rattle.std.specs.Prelude.{◌≡◌, ◌≢◌, ℕ, ◌+◌, ◌^◌, ◌<◌, ◌≤◌, ◌⊎◌, true, false, List, length, take, IfSome, ⊤}
 use Rattle.std.specs.Io.KnownBytes.{Appends, Keeps}
 use Rattle.byte_ports.specs.Ports.{AppendsFront}
 use Rattle.layer_shelf.specs.Shelves.{file_at}
@@ -88,8 +88,13 @@ pub record StopsAt (files : List (List ℕ)) (number : ℕ) (fault : LayerFault)
 -- of the files that a command reads this one is the first that is no layer
 abbrev pub IsBadLayer : Command → List (List ℕ) → ℕ → LayerFault → Type 0
 IsBadLayer (Flatten true) files number fault = AreShort files × StopsAt files number fault
+IsBadLayer (Flatten false) files number fault = StopsAt files number fault
 IsBadLayer (Info wanted) files number fault = (number ≡ wanted) × (number < length files) × IsLayerFault (file_at files number) fault × IsOfFile fault
-IsBadLayer other files number fault = StopsAt files number fault
+IsBadLayer Stack files number fault = StopsAt files number fault
+IsBadLayer (Create asked) files number fault = StopsAt files number fault
+IsBadLayer (Read at count) files number fault = StopsAt files number fault
+IsBadLayer (Write at) files number fault = StopsAt files number fault
+IsBadLayer (Zero at count) files number fault = StopsAt files number fault
 
 -- what the number of layers says of a fault of their stack
 abbrev pub IsOfCount : StackFault → ℕ → Type 0

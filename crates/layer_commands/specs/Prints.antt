@@ -5,7 +5,7 @@ use Rattle.std.specs.List.{AllZip}
 use Rattle.lsmt_header.specs.declared.head.Head.{Head}
 use Rattle.flat_image.specs.Sheets.{Cell, flat, bytes_of}
 use Rattle.flat_image.specs.LayerFiles.{LayerFile}
-use Rattle.flat_image.specs.Stacks.{Legal}
+use Rattle.flat_image.specs.Stacks.{uppermost, Legal}
 use Rattle.layer_shelf.specs.Shelves.{file_at}
 use Rattle.tool_setup.specs.declared.words.Command.{Command}
 use Rattle.tool_setup.specs.declared.words.Command.TheVariants.{Flatten, Info, Stack, Create, Read, Write, Zero}
@@ -23,12 +23,11 @@ AreLayers files layers = AllZip (λ file layer. LayerFile file layer.head layer.
 abbrev pub heads_of : List LayerSheet → List Head
 heads_of layers = map (λ layer. layer.head) layers
 
--- the sectors of the lowest layer
+-- the sectors of the uppermost layer
 abbrev pub sectors_of : List LayerSheet → ℕ
-sectors_of [] = 0
-sectors_of (layer ∷ above) = layer.head.sectors
+sectors_of layers = uppermost 0 (map (λ layer. layer.head.sectors) layers)
 
--- the flat image of layers
+-- the flat image of layers, as large as the uppermost
 abbrev pub flat_image : List LayerSheet → List ℕ
 flat_image layers = bytes_of (flat (sectors_of layers) (map (λ layer. layer.sheet) layers))
 

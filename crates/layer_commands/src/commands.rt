@@ -1,12 +1,12 @@
 //! The commands over layers.
-ghost use Rattle.std.specs.Prelude.{◌≡◌, ◌≤◌, false, map, IfErr, OnErr, OnOk, IsErrOf, All};
+ghost use Rattle.std.specs.Prelude.{◌≡◌, ◌^◌, ◌≤◌, false, IfErr, OnErr, OnOk, IsErrOf};
 ghost use Rattle.std.specs.Io.KnownBytes.{Appends};
 ghost use Rattle.sector_extent.specs.Causes.{Charges};
 ghost use Rattle.byte_ports.specs.Ports.{AppendsFront};
-ghost use Rattle.flat_image.specs.Stacks.{Legal};
 ghost use Rattle.layer_stack.specs.declared.fault.StackFault.TheVariants.{Empty};
 ghost use Rattle.tool_setup.specs.declared.words.Command.TheVariants.{Flatten, Info, Stack};
 ghost use Rattle.layer_commands.specs.Ports.{by_shelf};
+ghost use Rattle.layer_commands.specs.Flattening.{upper_sectors};
 ghost use Rattle.layer_commands.specs.Causes.{Cause, PrintsAll};
 
 use crate::flattening::write_flat;
@@ -31,13 +31,13 @@ pub fn write_text<B: Sink>(text: &[u8], out: &mut B) -> Result<(), Refusal>
     }
 }
 
-// The sectors of each layer of a stack.
-fn stack_sectors(layers: &[Layer]) -> u64
-    requires { Legal (map (λ layer. layer.head) layers.now) }
-    ensures { All (λ layer. layer.head.sectors ≡ result) layers.now }
+/// The sectors of a stack of layers, which are those of the uppermost, or 0 where there is none.
+pub fn stack_sectors(layers: &[Layer]) -> u64
+    ensures value { result ≡ upper_sectors layers.now }
+    ensures few { result ≤ 2 ^ 31 }
 {
-    match layers.first() {
-        Some(layer) => layer.head().sectors,
+    match layers.last() {
+        Some(layer) => layer.sectors(),
         None => 0,
     }
 }

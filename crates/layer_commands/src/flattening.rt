@@ -1,11 +1,11 @@
 //! Writes the flat image of layers piece by piece.
-ghost use Rattle.std.specs.Prelude.{◌≡◌, ◌+◌, ◌*◌, ◌^◌, ◌<◌, ◌≤◌, ◌⊎◌, length, OnOk, OnErr, IfErr, IfSome, All, IsErr, IsErrOf};
+ghost use Rattle.std.specs.Prelude.{◌≡◌, ◌+◌, ◌*◌, ◌^◌, ◌<◌, ◌≤◌, ◌⊎◌, length, OnOk, OnErr, IfErr, IfSome, IsErr, IsErrOf};
 ghost use Rattle.std.specs.Option.{ForSome};
 ghost use Rattle.std.specs.Io.KnownBytes.{Appends};
 ghost use Rattle.sector_extent.specs.Causes.{Charges};
 ghost use Rattle.byte_ports.specs.Ports.{AppendsFront};
 ghost use Rattle.layer_shelf.specs.Shelves.{SameFiles};
-ghost use Rattle.layer_commands.specs.Flattening.{AreTold, flat_part, told_flat};
+ghost use Rattle.layer_commands.specs.Flattening.{AreTold, FitIn, flat_part, told_flat};
 
 use crate::refusal::Refusal;
 use byte_ports::Sink;
@@ -28,7 +28,7 @@ fn paint_piece<S: Shelf>(
     requires files { length layers.now ≡ S.count shelf.old }
     requires few { length layers.now < 2 ^ 32 }
     requires size { length piece.old ≡ 512 * count }
-    requires within { All (λ layer. at + count ≤ layer.head.sectors) layers.now }
+    requires within { at + count ≤ 2 ^ 31 }
     requires told { ForSome (S.files shelf.old) (λ files. AreTold files layers.now) }
     ensures painted { OnOk result (IfSome (S.files shelf.old) (λ files.
         piece.new ≡ flat_part files layers.now at count)) }
@@ -54,7 +54,7 @@ fn write_piece<B: Sink, S: Shelf>(
     requires files { length layers.now ≡ S.count shelf.old }
     requires few { length layers.now < 2 ^ 32 }
     requires size { length piece.old ≡ 512 * count }
-    requires within { All (λ layer. at + count ≤ layer.head.sectors) layers.now }
+    requires within { at + count ≤ 2 ^ 31 }
     requires told { ForSome (S.files shelf.old) (λ files. AreTold files layers.now) }
     ensures done { OnOk result (IfSome (S.files shelf.old) (λ files.
         Appends (B.written out.old) (B.written out.new) (flat_part files layers.now at count))) }
@@ -75,8 +75,9 @@ fn write_piece<B: Sink, S: Shelf>(
     }
 }
 
-/// Writes the flat image of the layers, the lowest first, which are the files of the shelf and have
-/// so many sectors each. Each piece is painted in one buffer and written with one call.
+/// Writes the flat image of the layers, the lowest first, which are the files of the shelf; it has so
+/// many sectors, and none of them has more. Each piece is painted in one buffer and written with one
+/// call.
 pub fn write_flat<B: Sink, S: Shelf>(
     alloc: Global,
     shelf: &mut S,
@@ -86,7 +87,8 @@ pub fn write_flat<B: Sink, S: Shelf>(
 ) -> Result<(), Refusal>
     requires files { length layers.now ≡ S.count shelf.old }
     requires few { length layers.now < 2 ^ 32 }
-    requires sizes { All (λ layer. layer.head.sectors ≡ sectors) layers.now }
+    requires small { sectors ≤ 2 ^ 31 }
+    requires sizes { ForSome (S.files shelf.old) (λ _. FitIn sectors layers.now) }
     requires told { ForSome (S.files shelf.old) (λ files. AreTold files layers.now) }
     ensures done { OnOk result (IfSome (S.files shelf.old) (λ files.
         Appends (B.written out.old) (B.written out.new) (told_flat sectors files layers.now))) }

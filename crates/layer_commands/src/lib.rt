@@ -10,12 +10,13 @@ mod reading;
 mod refusal;
 mod reports;
 mod running;
+mod runs;
 mod stacks;
 #[cfg(test)]
 mod tests;
 mod texts;
 
-pub use commands::{flatten_shelf, print_head, print_stack, write_text};
+pub use commands::{flatten_shelf, print_head, print_stack, stack_sectors, write_text};
 pub use flattening::write_flat;
 pub use line::{Line, push_number, push_numbered, push_pair, push_parted};
 pub use one_layer::flatten_source;

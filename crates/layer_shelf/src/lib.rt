@@ -2,10 +2,12 @@
 //! and over real files.
 #![tactic(auto)]
 
+mod held;
 mod in_folder;
 mod in_memory;
 mod shelves;
 
+pub use held::{Gate, HeldShelf};
 pub use in_folder::{FolderShelf, PathList, PathText};
 pub use in_memory::MemShelf;
 pub use shelves::{Shelf, ShelfFailed};

@@ -1,7 +1,11 @@
 pub mod CellLaws
+pub mod EdgeLaws
+pub mod HalvesLaws
+pub mod Halving
 pub mod IndexLaws
 pub mod PaintLaws
 pub mod PartLaws
 pub mod PieceLaws
-pub mod RowLaws
-mod RunSteps
+pub mod PlainLaws
+pub mod RowSegments
+pub mod SegmentLaws

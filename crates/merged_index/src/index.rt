@@ -1,35 +1,31 @@
-ghost use Rattle.std.specs.Prelude.{◌≡◌, ℕ, ◌+◌, ◌-◌, ◌<◌, ◌≤◌, ◌⊎◌, List, [], ◌∷◌, ◌++◌, All, IfOk, take, drop, length, map};
-ghost use Rattle.std.specs.Arc.{arc_value};
+ghost use Rattle.std.specs.Prelude.{◌≡◌, ℕ, ◌+◌, ◌-◌, ◌*◌, ◌^◌, ◌<◌, ◌≤◌, ◌⊎◌, List, [], ◌∷◌, ◌++◌, All, IfOk, take, drop, length};
 ghost use Rattle.sealed_layer.specs.Layers.{LayerIndex};
 ghost use Rattle.merged_index.specs.declared.piece.PieceWhat.TheVariants.{Hole};
 ghost use Rattle.merged_index.specs.Cells.{what_of, painted_what, cells_of, IsRowEdge, IsEdge, IsIndexOf};
 ghost use Rattle.merged_index.specs.Pieces.{AreCells, IsUnparted};
 
-use crate::numbered::LayerRows;
 use crate::piece::Piece;
 use crate::search::find_in;
+use crate::segments::Segments;
 use sealed_layer::Layer;
 use sector_extent::{Extent, Found, Memory, Steps};
 use std::alloc::Global;
 use std::marker::Model;
-use std::sync::Arc;
 use std::sync::ledger::Ledger;
 
-/// Which layer has each sector of an image uppermost, and where in its file. It never changes; a
-/// further layer makes another one, which shares the rows of the layers below.
+/// Which layer has each sector of an image uppermost, and where in its file: sorted segments without
+/// overlap. It never changes; a further layer makes another one.
 #[derive(Drop)]
 pub struct MergedIndex {
-    layers: Vec<Arc<LayerRows>>,
+    segments: Segments,
 }
 
 impl Model for MergedIndex {
-    ghost use Rattle.std.specs.Prelude.{map};
-    ghost use Rattle.std.specs.Arc.{arc_value};
     ghost use Rattle.merged_index.specs.Cells.{Index};
 
     ghost Value = { Index };
 
-    ghost view = { λ index. record { layers = map arc_value index.layers.items } };
+    ghost view = { λ index. record { segments = index.segments } };
 }
 
 /// The index of the layers, the lowest first, under the numbers from 0 on.
@@ -37,12 +33,8 @@ pub fn merge(alloc: Global, layers: &[Layer]) -> Result<MergedIndex, Memory>
     requires few { length layers.now ≤ 255 }
     ensures painted { IfOk result (λ index. IsIndexOf index layers.now) }
 {
-    let mut merged = Vec::with_capacity(alloc, layers.len())?;
-    for number in 0..layers.len() {
-        let layer = LayerRows::of(alloc, &layers[number], number as u8)?;
-        merged.push(Arc::new(alloc, layer)?)?;
-    }
-    Ok(MergedIndex { layers: merged })
+    let segments = Segments::of(alloc, layers)?;
+    Ok(MergedIndex { segments })
 }
 
 impl MergedIndex {
@@ -59,10 +51,8 @@ impl MergedIndex {
             (layers : List LayerIndex) → IsIndexOf self.now layers → length layers ≡ tag
             → IsIndexOf index (layers ++ layer.now ∷ [])) }
     {
-        let top = Arc::new(alloc, LayerRows::of(alloc, layer, tag)?)?;
-        let mut layers = shared(alloc, self.layers.as_slice())?;
-        layers.push(top)?;
-        Ok(MergedIndex { layers })
+        let segments = self.segments.under(alloc, layer, tag)?;
+        Ok(MergedIndex { segments })
     }
 
     /// Writes the pieces of the extent into `out`, up to the sector `until` of the answer, where the
@@ -76,18 +66,16 @@ impl MergedIndex {
         ensures unparted { All (IsUnparted self.now (extent.at + extent.count)) (take result.pieces out.new) }
         ensures rest { drop result.pieces out.new ≡ drop result.pieces out.old }
         ensures counted { steps.old ≤ steps.new }
+        // p looks and one more a piece, where 2^p is at most 2n + 1
+        ensures bound { 2 ^ (steps.new - steps.old - result.pieces) ≤ 2 * length self.now.segments + 1 }
     {
-        find_in(self.layers.as_slice(), extent.at, extent.end(), out, steps)
+        find_in(&self.segments, extent.at, extent.end(), out, steps)
     }
-}
 
-// The same layers.
-fn shared(alloc: Global, layers: &[Arc<LayerRows>]) -> Result<Vec<Arc<LayerRows>>, Memory>
-    ensures { IfOk result (λ copy. map arc_value copy.items ≡ map arc_value layers.now) }
-{
-    let mut copy = Vec::with_capacity(alloc, layers.len() + 1)?;
-    for layer in layers {
-        copy.push(Arc::try_clone(layer)?)?;
+    /// How many segments it has.
+    pub fn len(&self) -> usize
+        ensures { result ≡ length self.now.segments }
+    {
+        self.segments.len()
     }
-    Ok(copy)
 }

@@ -4,13 +4,17 @@
 
 mod index;
 mod laws;
-mod numbered;
+mod paint;
 mod piece;
 mod search;
+mod segment;
+mod segments;
 
 pub use index::{MergedIndex, merge};
 pub use laws::index_laws;
 pub use piece::{Piece, PieceWhat};
 
+#[cfg(test)]
+mod plain;
 #[cfg(test)]
 mod tests;

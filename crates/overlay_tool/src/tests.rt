@@ -63,6 +63,22 @@ fn third(alloc: Global) -> Result<Vec<u8>, AllocError> {
     layer_file(alloc, 0x33, 0x11, false, Some(ZEROED_ROW))
 }
 
+/// A layer over L1 of this version and so many sectors, with S(64) at one of them. L4 has version 2,
+/// 6 sectors and S(64) at 5.
+fn sized(alloc: Global, version: u8, sectors: u8, at: u8) -> Result<Vec<u8>, AllocError> {
+    let mut block = block_of(7, 0x22, 0x11, false, 1);
+    block[8] = version;
+    block[17] = 0x12;
+    block[32] = sectors;
+    let mut file = Vec::from_slice(alloc, &block)?;
+    file.extend_from_slice(&[0x64; 512])?;
+    file.extend_from_slice(&[at, 0, 0, 0, 0, 0, 4, 0, 8, 0, 0, 0, 0, 0, 0, 0])?;
+    file.resize(8192, 0)?;
+    block[12] = 6;
+    file.extend_from_slice(&block)?;
+    Ok(file)
+}
+
 fn bytes_of(alloc: Global, bytes: &[u8]) -> Result<Bytes, AllocError> {
     Ok(Bytes::from_vec(Vec::from_slice(alloc, bytes)?))
 }
@@ -193,6 +209,33 @@ fn a_stack_is_flattened(rt: HostRuntime) -> Result<(), Fail> {
 }
 
 #[test]
+fn layers_of_different_sizes_are_flattened(rt: HostRuntime) -> Result<(), Fail> {
+    let taller = pair(rt.alloc(), first(rt.alloc())?, sized(rt.alloc(), 2, 6, 5)?)?;
+    is_image(
+        &rt,
+        rt.alloc(),
+        &run(&rt, rt.alloc(), &["flatten"], b"", taller)?,
+        &[0, 0x61, 0x62, 0, 0, 0x64],
+    )?;
+    let cases = [
+        (1, 6, 5, "refused: layer 1 size\n"),
+        (2, 3, 2, "refused: layer 1 size\n"),
+        (3, 3, 2, "refused: layer 1: bad version 3\n"),
+    ];
+    for (version, sectors, at, line) in cases {
+        let upper = sized(rt.alloc(), version, sectors, at)?;
+        let files = pair(rt.alloc(), first(rt.alloc())?, upper)?;
+        is_refused(
+            &rt,
+            &run(&rt, rt.alloc(), &["flatten"], b"", files)?,
+            3,
+            line,
+        );
+    }
+    Ok(())
+}
+
+#[test]
 fn layers_are_told(rt: HostRuntime) -> Result<(), Fail> {
     let files = pair(rt.alloc(), first(rt.alloc())?, second(rt.alloc())?)?;
     let head = run(&rt, rt.alloc(), &["info", "0"], b"", files)?;
@@ -220,7 +263,8 @@ fn layers_are_told(rt: HostRuntime) -> Result<(), Fail> {
 fn a_file_that_is_no_layer_is_refused(rt: HostRuntime) -> Result<(), Fail> {
     let cases = [
         (0, b'X', "refused: layer 0: bad magic\n"),
-        (8, 2, "refused: layer 0: bad version 2\n"),
+        (8, 2, "refused: layer 0: trailer differs\n"),
+        (8, 3, "refused: layer 0: bad version 3\n"),
         (12, 15, "refused: layer 0: compressed\n"),
         (12, 5, "refused: layer 0: bad flags 5\n"),
         (32, 0, "refused: layer 0: bad size 0\n"),

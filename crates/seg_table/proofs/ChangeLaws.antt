@@ -1,16 +1,16 @@
 -- What sorted segments have on one side of a sector.
-use Rattle.std.proofs.Common.{◌≡◌, ℕ, zero, suc, ◌+◌, ◌-◌, ◌^◌, ◌<◌, ◌≤◌, ◌⊎◌, inl, inr, List, [], ◌∷◌, ◌++◌, length, max, Option, Some, None, refl, sym, ap, subst, ◌∙◌, arith}
+use Rattle.std.proofs.Common.{◌≡◌, ℕ, ◌+◌, ◌<◌, ◌≤◌, inl, inr, List, [], ◌∷◌, ◌++◌, length, max, Some, None, refl, sym, ap, subst, ◌∙◌, arith}
 use Rattle.std.specs.Option.{option_or}
 use Rattle.std.proofs.lemmas.Bool.{cases_lt}
 use Rattle.std.proofs.lemmas.List.{length-append}
 use Rattle.sector_extent.specs.Places.{IsIn}
 use Rattle.seg_table.specs.declared.segment.Segment.{Segment}
-use Rattle.seg_table.specs.Cells.{said_by, what_at, cell_in, IsEdge, Sets}
+use Rattle.seg_table.specs.Cells.{said_by, what_at, cell_in, IsEdge}
 use Rattle.seg_table.specs.Pieces.{end_of}
 use Rattle.seg_table.specs.Put.{IsPut}
 use Rattle.seg_table.specs.Segments.{AreSegments, IsBefore, IsBeyond, IsPutInto, segments_end}
 use Rattle.seg_table.proofs.CellLaws.{said_by_in, said_by_out, option_or-none}
-use Rattle.seg_table.proofs.SortedLaws.{are-append, are-front, are-behind, end-append, cell-append, cell-before, cell-past, rises, ends, edge-behind, edge-front, edge-cases, edge-one, lowered}
+use Rattle.seg_table.proofs.SortedLaws.{are-append, are-front, are-behind, end-append, cell-append, cell-before, cell-past, ends, edge-behind, edge-front, edge-cases, edge-one}
 
 -- a part of a segment says the same of the sectors that both have
 same-said : (s c : Segment) (p : ℕ) → c.extent.at ≤ p → s.extent.at ≤ p → p < end_of c → p < end_of s → ((q : ℕ) → c.extent.at ≤ q → what_at c q ≡ what_at s q) → said_by c p ≡ said_by s p

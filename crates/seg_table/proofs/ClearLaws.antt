@@ -1,15 +1,15 @@
 -- Leaves of which what is before a sector goes.
-use Rattle.std.proofs.Common.{◌≡◌, ℕ, zero, suc, ◌+◌, ◌-◌, ◌^◌, ◌<◌, ◌≤◌, ◌⊎◌, inl, inr, All, List, [], ◌∷◌, ◌++◌, length, take, drop, get_or, Option, Some, None, refl, sym, ap, subst, ◌∙◌, arith}
+use Rattle.std.proofs.Common.{◌≡◌, ℕ, ◌+◌, ◌-◌, ◌<◌, ◌≤◌, inl, inr, All, List, [], ◌∷◌, ◌++◌, length, take, drop, get_or, None, refl, sym, ap, subst, ◌∙◌, arith}
 use Rattle.std.specs.Option.{option_or}
 use Rattle.std.proofs.lemmas.Bool.{cases_lt}
 use Rattle.std.proofs.lemmas.List.{length-append, length-take, length-take-le, length-drop, take-append-le, take-take, drop-drop, take_at, drop_at, get_or-drop, take-append-drop}
-use Rattle.std.proofs.lemmas.List.Elements.{All-head, All-tail, All-get_or, All-drop}
+use Rattle.std.proofs.lemmas.List.Elements.{All-head, All-get_or, All-drop}
 use Rattle.seg_table.specs.declared.segment.Segment.{Segment}
-use Rattle.seg_table.specs.Cells.{cell_in, IsEdge}
+use Rattle.seg_table.specs.Cells.{cell_in}
 use Rattle.seg_table.specs.Segments.{AreCleared, AreLeaves, AreSegments, IsBeyond, IsLeaf, first_of, joined, segments_end}
 use Rattle.seg_table.proofs.CellLaws.{option_or-none}
 use Rattle.seg_table.proofs.SortedLaws.{are-append, are-front, are-behind, cell-append, cell-before, cell-past, rises, ends, edge-behind, edge-front, edge-cases, lowered}
-use Rattle.seg_table.proofs.LeafLaws.{joined-append, joined-split, first-behind, end-low}
+use Rattle.seg_table.proofs.LeafLaws.{joined-append, joined-split, first-behind}
 
 begins-at : (low from : ℕ) (xs ys : List Segment) → AreSegments low (xs ++ ys) → 0 < length xs → from ≤ first_of xs → AreSegments from (xs ++ ys)
 begins-at low from [] ys are some order = absurd (omega arith)

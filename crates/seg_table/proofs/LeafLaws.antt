@@ -1,5 +1,5 @@
 -- Leaves as one list, and what of it is behind a place.
-use Rattle.std.proofs.Common.{set, ◌≡◌, ℕ, zero, suc, ◌+◌, ◌-◌, ◌*◌, ◌^◌, ◌<◌, ◌≤◌, ◌⊎◌, inl, inr, All, List, [], ◌∷◌, ◌++◌, length, take, drop, get_or, Option, Some, None, refl, sym, ap, subst, ◌∙◌, arith}
+use Rattle.std.proofs.Common.{set, ◌≡◌, ℕ, zero, suc, ◌+◌, ◌*◌, ◌^◌, ◌<◌, ◌≤◌, inl, inr, All, List, [], ◌∷◌, ◌++◌, length, take, drop, get_or, refl, sym, ap, subst, ◌∙◌, arith}
 use Rattle.std.specs.Option.{option_or}
 use Rattle.std.proofs.lemmas.Nat.{pow-add}
 use Rattle.std.proofs.lemmas.Bool.{cases_lt}
@@ -9,7 +9,7 @@ use Rattle.std.proofs.Math.Seq.{drop-cons, split_at}
 use Rattle.std.proofs.lemmas.List.Elements.{All-head, All-tail, All-get_or, All-drop}
 use Rattle.seg_table.specs.declared.segment.Segment.{Segment}
 use Rattle.seg_table.specs.declared.segment.What.TheVariants.{Zero}
-use Rattle.seg_table.specs.Cells.{said_by, what_at, cell_in, IsEdge}
+use Rattle.seg_table.specs.Cells.{cell_in, IsEdge}
 use Rattle.seg_table.specs.Pieces.{end_of}
 use Rattle.seg_table.specs.Segments.{AreLeaves, AreSegments, EndsPast, IsLeaf, IsPlace, IsRest, first_of, joined, left_at, segments_end}
 use Rattle.seg_table.proofs.CellLaws.{option_or-none}

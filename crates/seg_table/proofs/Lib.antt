@@ -2,6 +2,7 @@ pub mod CellLaws
 pub mod ChangeLaws
 pub mod ClearLaws
 pub mod Halving
+pub mod JoinLaws
 pub mod LeafLaws
 pub mod PieceLaws
 pub mod PutLaws

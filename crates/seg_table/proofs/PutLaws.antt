@@ -1,19 +1,19 @@
 -- A put into one leaf as a put into all of them.
-use Rattle.std.proofs.Common.{set, min, ◌≡◌, ℕ, zero, suc, ◌+◌, ◌-◌, ◌^◌, ◌<◌, ◌≤◌, ◌⊎◌, inl, inr, All, List, [], ◌∷◌, ◌++◌, length, take, drop, get_or, Option, Some, None, refl, sym, ap, subst, ◌∙◌, arith}
+use Rattle.std.proofs.Common.{set, ◌≡◌, ℕ, suc, ◌+◌, ◌<◌, ◌≤◌, inl, inr, All, List, [], ◌∷◌, ◌++◌, length, take, drop, get_or, None, sym, ap, subst, ◌∙◌, arith}
 use Rattle.std.specs.Option.{option_or}
 use Rattle.std.specs.Prelude.{insert}
 use Rattle.std.proofs.lemmas.Bool.{cases_lt}
 use Rattle.std.proofs.Math.Seq.{split_at}
 use Rattle.std.proofs.lemmas.List.{length-append, length-take, length-take-le, length-drop, take_at, drop_at, get_or_at, get_or-take, get_or-drop, take-take, take-append-drop, append_assoc}
-use Rattle.std.proofs.lemmas.List.Elements.{All-append, All-cons, All-get_or, All-take, All-drop}
+use Rattle.std.proofs.lemmas.List.Elements.{All-append, All-cons, All-get_or, All-drop}
 use Rattle.sector_extent.specs.Places.{IsIn}
 use Rattle.seg_table.specs.declared.segment.Segment.{Segment}
-use Rattle.seg_table.specs.Cells.{what_at, cell_in, IsEdge}
+use Rattle.seg_table.specs.Cells.{cell_in}
 use Rattle.seg_table.specs.Pieces.{end_of}
 use Rattle.seg_table.specs.Put.{IsPut}
 use Rattle.seg_table.specs.Segments.{AreAllBut, AreCleared, AreLeaves, AreSegments, IsBeyond, IsLeaf, IsPutInto, first_of, joined, segments_end}
 use Rattle.seg_table.proofs.LeafLaws.{joined-append, joined-split, first-behind, set-parts}
-use Rattle.seg_table.proofs.ClearLaws.{leaves-begin, leaf-sorted}
+use Rattle.seg_table.proofs.ClearLaws.{leaves-begin}
 use Rattle.seg_table.proofs.SortedLaws.{end-above, are-append, are-front, are-behind, cell-append, cell-before, cell-past, rises, ends, edge-behind, edge-front, edge-cases, lowered}
 
 pub put-parts : (front x y back left : List Segment) (s : Segment) → IsPut s → AreSegments 0 (front ++ (x ++ back)) → segments_end 0 front ≤ s.extent.at → AreSegments s.extent.at back

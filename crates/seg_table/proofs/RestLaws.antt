@@ -1,12 +1,11 @@
 -- The piece that the first of the segments that are left gives.
-use Rattle.std.proofs.Common.{◌≡◌, ℕ, ◌+◌, ◌-◌, ◌^◌, ◌<◌, ◌≤◌, ◌⊎◌, inl, inr, List, [], ◌∷◌, length, max, min, Option, Some, None, IsNone, ◌↔◌, refl, sym, ap, subst, ◌∙◌, arith}
+use Rattle.std.proofs.Common.{◌≡◌, ℕ, ◌<◌, ◌≤◌, inl, inr, List, [], ◌∷◌, max, min, Some, refl, sym, ap, subst, ◌∙◌, arith}
 use Rattle.std.proofs.lemmas.Bool.{cases_lt}
-use Rattle.sector_extent.specs.Places.{IsIn}
 use Rattle.seg_table.specs.declared.segment.Segment.{Segment}
-use Rattle.seg_table.specs.Cells.{what_at, cell_in, IsEdge}
+use Rattle.seg_table.specs.Cells.{what_at, cell_in}
 use Rattle.seg_table.specs.Pieces.{AreUnset, IsNext, IsUnparted, end_of}
 use Rattle.seg_table.specs.Put.{IsPut}
-use Rattle.seg_table.specs.Segments.{AreSegments, IsRest}
+use Rattle.seg_table.specs.Segments.{IsRest}
 use Rattle.seg_table.proofs.SortedLaws.{cell-before, cell-first}
 use Rattle.seg_table.proofs.LeafLaws.{rest-next}
 

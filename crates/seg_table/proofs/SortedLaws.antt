@@ -1,6 +1,5 @@
 -- Sorted segments, and what they say of a sector.
-use Rattle.std.proofs.Common.{◌≡◌, ℕ, zero, suc, ◌+◌, ◌-◌, ◌^◌, ◌<◌, ◌≤◌, ◌⊎◌, inl, inr, List, [], ◌∷◌, ◌++◌, length, take, drop, get_or, Option, Some, None, refl, sym, ap, subst, ◌∙◌, arith}
-use Rattle.std.specs.List.{Any}
+use Rattle.std.proofs.Common.{◌≡◌, ℕ, zero, suc, ◌+◌, ◌-◌, ◌^◌, ◌<◌, ◌≤◌, ◌⊎◌, inl, inr, List, [], ◌∷◌, ◌++◌, length, take, drop, get_or, Some, None, refl, sym, ap, subst, ◌∙◌, arith}
 use Rattle.std.specs.Option.{option_or}
 use Rattle.std.proofs.lemmas.Bool.{cases_lt}
 use Rattle.std.proofs.Math.Seq.{split_at}
@@ -11,7 +10,7 @@ use Rattle.seg_table.specs.declared.segment.Segment.{Segment}
 use Rattle.seg_table.specs.Cells.{said_by, what_at, cell_in, IsEdge}
 use Rattle.seg_table.specs.Pieces.{end_of}
 use Rattle.seg_table.specs.Put.{IsPut}
-use Rattle.seg_table.specs.Segments.{IsSegment, AreSegments, segments_end}
+use Rattle.seg_table.specs.Segments.{AreSegments, segments_end}
 use Rattle.seg_table.proofs.CellLaws.{said_by_in, said_by_out, option_or-none, option_or-assoc}
 
 pub lowered : (low less : ℕ) (xs : List Segment) → less ≤ low → AreSegments low xs → AreSegments less xs

@@ -1,7 +1,7 @@
 -- Sorted segments without overlap, and leaves of them.
-use Rattle.std.specs.Prelude.{◌≡◌, ℕ, zero, suc, ◌+◌, ◌<◌, ◌≤◌, ◌⊎◌, List, [], ◌∷◌, ◌++◌, length, take, drop, slice_index_or, All, None}
+use Rattle.std.specs.Prelude.{◌≡◌, ℕ, zero, suc, ◌+◌, ◌<◌, ◌≤◌, ◌⊎◌, List, [], ◌∷◌, ◌++◌, length, take, drop, slice_index_or, All}
 use Rattle.seg_table.specs.declared.segment.Segment.{Segment}
-use Rattle.seg_table.specs.Cells.{cell_in, Sets, IsEdge}
+use Rattle.seg_table.specs.Cells.{cell_in, onward, Sets, IsEdge}
 use Rattle.seg_table.specs.Put.{IsPut}
 
 -- a segment that may be put, and begins at `low` or later
@@ -51,6 +51,26 @@ pub record IsPutInto (segment : Segment) (old new : List Segment) : Type 0 where
   pub edges : (sector : ℕ) → IsEdge new sector
       → IsEdge old sector ⊎ ((sector ≡ segment.extent.at) ⊎ (sector ≡ segment.extent.at + segment.extent.count))
   pub few : length new ≤ length old + 2
+
+-- a segment begins where another ends, with what follows there
+pub record GoesOn (first second : Segment) : Type 0 where
+  pub touches : first.extent.at + first.extent.count ≡ second.extent.at
+  pub runs : onward first.what first.extent.count ≡ second.what
+
+-- both as one segment
+pub record IsBoth (first second both : Segment) : Type 0 where
+  pub at : both.extent.at ≡ first.extent.at
+  pub end : both.extent.at + both.extent.count ≡ second.extent.at + second.extent.count
+  pub what : both.what ≡ first.what
+  pub put : IsPut both
+
+-- the new segments are the old ones, of which some that go on into each other were made one
+pub record IsJoined (old new : List Segment) : Type 0 where
+  pub sorted : AreSegments 0 new
+  pub cells : (sector : ℕ) → cell_in new sector ≡ cell_in old sector
+  pub edges : (sector : ℕ) → IsEdge new sector → IsEdge old sector
+  pub few : length new ≤ length old
+  pub some : 0 < length old → 0 < length new
 
 -- the new segments are what the old ones have from `end` on
 pub record IsBeyond (end : ℕ) (old new : List Segment) : Type 0 where

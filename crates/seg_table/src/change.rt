@@ -4,6 +4,7 @@ ghost use Rattle.seg_table.specs.Pieces.{end_of};
 ghost use Rattle.seg_table.specs.Put.{IsPut};
 ghost use Rattle.seg_table.specs.Segments.{AreAllBut, AreCleared, AreLeaves, AreSegments, IsBefore, IsBeyond, IsLeaf, IsPutInto, first_of, joined, segments_end};
 
+use crate::joining::join_around;
 use crate::leaf::{Leaf, MOST};
 use crate::search::{leaves_before, segments_before};
 use crate::segment::{Segment, part};
@@ -51,13 +52,13 @@ fn add_beyond(segments: &[Segment], passed: usize, from: u64, made: &mut Leaf)
     }
 }
 
-// Makes sorted segments anew with one put into them.
-fn put_among<L: Ledger>(
+// Makes sorted segments anew with one put into them, and answers its number.
+fn put_apart<L: Ledger>(
     segments: &[Segment],
     segment: Segment,
     made: &mut Leaf,
     steps: &mut Steps<L>,
-)
+) -> usize
     requires sorted { AreSegments 0 segments.now }
     requires room { length segments.now ≤ 255 }
     requires put { IsPut segment }
@@ -70,8 +71,27 @@ fn put_among<L: Ledger>(
     let passed = segments_before(segments, end, steps);
     made.clear();
     add_before(segments, before, from, made);
+    let number = made.len();
     made.push(segment);
     add_beyond(segments, passed, end, made);
+    number
+}
+
+// The same, and joins it with what goes on before and behind it.
+fn put_among<L: Ledger>(
+    segments: &[Segment],
+    segment: Segment,
+    made: &mut Leaf,
+    steps: &mut Steps<L>,
+)
+    requires sorted { AreSegments 0 segments.now }
+    requires room { length segments.now ≤ 255 }
+    requires put { IsPut segment }
+    ensures put { IsPutInto segment segments.now made.new }
+    ensures some { 0 < length made.new }
+{
+    let number = put_apart(segments, segment, made, steps);
+    join_around(made, number);
 }
 
 // Puts a leaf in the place of that number, and takes the one that stood there.

@@ -92,6 +92,24 @@ impl Leaf {
         self.first = first_in(self.segments.as_slice());
     }
 
+    /// Removes the segment of that number.
+    pub(crate) fn remove(&mut self, number: usize)
+        requires { number < length self.old }
+        ensures { self.new ≡ take number self.old ++ drop (number + 1) self.old }
+    {
+        self.segments.remove(number);
+        self.first = first_in(self.segments.as_slice());
+    }
+
+    /// Puts a segment in the place of the one of that number.
+    pub(crate) fn set(&mut self, number: usize, segment: Segment)
+        requires { number < length self.old }
+        ensures { self.new ≡ take number self.old ++ segment ∷ drop (number + 1) self.old }
+    {
+        self.segments[number] = segment;
+        self.first = first_in(self.segments.as_slice());
+    }
+
     /// Leaves the first `cut` segments.
     pub(crate) fn truncate(&mut self, cut: usize)
         ensures { self.new ≡ take cut self.old }

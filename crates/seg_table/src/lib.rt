@@ -3,6 +3,7 @@
 #![tactic(auto)]
 
 mod change;
+mod joining;
 mod leaf;
 mod plain;
 mod plain_search;
@@ -14,5 +15,11 @@ pub use plain::PlainTable;
 pub use segment::{Segment, What};
 pub use table::SegTable;
 
+#[cfg(test)]
+mod leaf_tests;
+#[cfg(test)]
+mod plain_tests;
+#[cfg(test)]
+mod speed_tests;
 #[cfg(test)]
 mod tests;

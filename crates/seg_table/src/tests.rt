@@ -11,13 +11,13 @@ const SECTORS: usize = 64;
 
 type Cells = [Option<What>; 64];
 
-const NOTHING: Segment = Segment {
+pub(crate) const NOTHING: Segment = Segment {
     extent: Extent { at: 0, count: 0 },
     what: What::Zero,
 };
 
 // The next number of a small generator.
-fn draw(state: &mut u64, below: u64) -> u64
+pub(crate) fn draw(state: &mut u64, below: u64) -> u64
     requires { 0 < below }
     ensures { result < below }
 {

@@ -18,7 +18,7 @@ use Rattle.flat_image.specs.Left.{Stand}
 use Rattle.flat_image.specs.RowCells.{cell_of, AreSpelled}
 use Rattle.flat_image.proofs.SpelledRows.{spelled_joined, spelled_in}
 use Rattle.top_writer.specs.Changes.{Notes}
-use Rattle.top_writer.specs.Files.{data_file, index_file, mark_file}
+use Rattle.top_writer.specs.Files.{data_file, index_file, mark_file, HeadsAsked}
 use Rattle.top_writer.specs.Fitting.{HasFront, IsIndex, Holds, Lasts}
 use Rattle.top_writer.specs.Rows.{IsTopRow, top_sheet, rows_of}
 use Rattle.top_writer.specs.View.{TopView, cell_at}
@@ -65,22 +65,22 @@ waiting_more waiting added old more old_size more_size first second =
     (subst (λ (k : ℕ). AreSpelled file k more) (let e : length waiting + 0 ≡ 0 + 16 * length old = omega (arith, old_size) in e)
     (spelled_in file added (length waiting) 0 (length added) more back (omega (arith, more_size)) second))
 
-pub noted_holds : (n : ℕ) (parent : Option (List ℕ)) (v noted : TopView) (extent : Extent) (w : What) (more : ℕ) (s t : Stand) (whole file : List ℕ) (rows : List Row)
-    → Holds n parent v s whole rows → Notes v extent w noted
+pub noted_holds : (n : ℕ) (asked : HeadsAsked) (v noted : TopView) (extent : Extent) (w : What) (more : ℕ) (s t : Stand) (whole file : List ℕ) (rows : List Row)
+    → Holds n asked v s whole rows → Notes v extent w noted
     → v.filled ≤ more → HasFront (4096 + 512 * v.filled) whole file → length file ≡ 4096 + 512 * more
     → extent.at + extent.count ≤ n → EndsIn more extent.count w
     → HasRoom (v.rows + rows_for extent.count) more
     → t.rows ≡ s.rows + rows_for extent.count → t.filled ≡ more → t.cells ≡ top_sheet file n (rows ++ rows_of extent.at extent.count w)
-    → Holds n parent (record noted { filled = more }) t file (rows ++ rows_of extent.at extent.count w)
-noted_holds n parent v noted extent w more s t whole file rows holds notes le front long within ends room rows_are filled_are cells =
+    → Holds n asked (record noted { filled = more }) t file (rows ++ rows_of extent.at extent.count w)
+noted_holds n asked v noted extent w more s t whole file rows holds notes le front long within ends room rows_are filled_are cells =
     let added : List Row = rows_of extent.at extent.count w in
     let count : length added ≡ rows_for extent.count = length-rows_of extent.at extent.count w in
-    let enough = synced_rows n parent v s whole rows holds in
+    let enough = synced_rows n asked v s whole rows holds in
     let old_size : length v.waiting ≡ 16 * length (drop v.synced rows) = omega (arith, length-drop v.synced rows, holds.waiting_size, holds.number) in
     record {
       epoch = omega (arith, notes.epoch, holds.epoch);
       sectors = notes.sectors ∙ holds.sectors;
-      head = front_head n (4096 + 512 * v.filled) parent whole file (omega arith) front holds.head;
+      head = front_head n (4096 + 512 * v.filled) asked whole file (omega arith) front holds.head;
       long = long;
       number = length-append rows added ∙ omega (arith, holds.number, count, notes.rows);
       sound = sound_more n v.filled more extent.at extent.count w rows le within ends holds.sound;
@@ -97,12 +97,12 @@ noted_holds n parent v noted extent w more s t whole file rows holds notes le fr
     }
 
 -- what a crash leaves is the same of longer files
-pub lasts_more : (tells : Bool) (now : DiskState) (n : ℕ) (v new : TopView) (whole file : List ℕ) (rows added : List Row) (may : List Stand)
+pub lasts_more : (tells : Bool) (now : DiskState) (n : ℕ) (asked : HeadsAsked) (v new : TopView) (whole file : List ℕ) (rows added : List Row) (may : List Stand)
     → new.epoch ≡ v.epoch → new.mark ≡ v.mark → new.synced ≡ v.synced → v.filled ≤ new.filled
     → HasFront (4096 + 512 * v.filled) whole file → v.synced ≤ length rows
     → (IsTrue tells → HasFront (4096 + 512 * new.filled) file (now.seen (data_file v.epoch)))
-    → Lasts tells now n v whole rows may → Lasts tells now n new file (rows ++ added) may
-lasts_more tells now n v new whole file rows added may epoch mark synced le front enough seen lasts =
+    → Lasts tells now n asked v whole rows may → Lasts tells now n asked new file (rows ++ added) may
+lasts_more tells now n asked v new whole file rows added may epoch mark synced le front enough seen lasts =
     let within = lasts.within in
     let first : (k : ℕ) → k ≤ v.synced → take k (rows ++ added) ≡ take k rows = λ k le_synced. take-append-le k rows added (omega (arith, le_synced, enough)) in
     let longer : (c : List ℕ) → HasFront (4096 + 512 * lasts.synced_sectors) whole c → HasFront (4096 + 512 * lasts.synced_sectors) file c = λ c h. record {
@@ -115,8 +115,8 @@ lasts_more tells now n v new whole file rows added may epoch mark synced le fron
       mark_is = ap (λ (m : Mark). m.file) mark ∙ lasts.mark_is ∙ ap mark_file (sym epoch);
       mark = subst (λ (m : Mark). IsKept now m) (sym mark) lasts.mark;
       bytes_left = λ c left. longer c (lasts.bytes_left c (subst (λ (e : ℕ). now.may_leave (data_file e) c) epoch left));
-      index_left = λ c left. subst (IsIndex n c) (ap (λ (k : ℕ). take k (rows ++ added)) (sym synced))
-          (subst (IsIndex n c) (sym (first v.synced (omega arith))) (lasts.index_left c (subst (λ (e : ℕ). now.may_leave (index_file e) c) epoch left)));
+      index_left = λ c left. subst (IsIndex n asked c) (ap (λ (k : ℕ). take k (rows ++ added)) (sym synced))
+          (subst (IsIndex n asked c) (sym (first v.synced (omega arith))) (lasts.index_left c (subst (λ (e : ℕ). now.may_leave (index_file e) c) epoch left)));
       seen = λ told. subst (λ (e : ℕ). HasFront (4096 + 512 * new.filled) file (now.seen (data_file e))) (sym epoch) (seen told);
       bodies = λ body may_hold. let old = lasts.bodies body (subst (λ (m : Mark). MayHold m body) mark may_hold) in
           let counted = old.2 in

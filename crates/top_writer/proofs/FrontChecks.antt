@@ -9,7 +9,7 @@ use Rattle.lsmt_header.specs.Faults.{IsFault}
 use Rattle.lsmt_header.proofs.BlockLemmas.{raw_of-block}
 use Rattle.top_writer.specs.declared.fault.TopReason.{TopReason}
 use Rattle.top_writer.specs.declared.fault.TopReason.TheVariants as why
-use Rattle.top_writer.specs.Files.{Stored, HasBlock, size_said, parent_said, IsParent}
+use Rattle.top_writer.specs.Files.{Stored, HasBlock, IsSizeFor, size_said, parent_said, IsParent, HeadsAsked}
 use Rattle.top_writer.specs.Loading.{AreFronts}
 use Rattle.top_writer.specs.Reasons.{HasBytes, HasBlocks, HasSizes, HasParent, IsReason}
 
@@ -24,47 +24,50 @@ parent_is file block head is of = ap (λ (b : List ℕ). (raw_head b).parent) (s
 has_block : (kind : Kind) (file block : List ℕ) (head : Head) → block ≡ take 4096 file → BlockOf block head → head.kind ≡ kind → HasBlock kind file
 has_block kind file block head is of same = (head, subst (λ (b : List ℕ). BlockOf b head) is of, same)
 
-pub bytes_fault : (n : ℕ) (parent : Option (List ℕ)) (t : Stored) (bytes index : List ℕ) (reason : TopReason)
-    → (fault : HeadFault) × (reason ≡ why.Bytes fault) × IsFault TopBytes (raw_head bytes) fault → AreFronts t bytes index → IsReason n parent t reason
-bytes_fault n parent t bytes index reason bad fronts =
-    subst (IsReason n parent t) (sym bad.1) (fronts.long, subst (λ (b : List ℕ). IsFault TopBytes (raw_head b) bad.0) fronts.bytes_are bad.2)
+pub bytes_fault : (n : ℕ) (asked : HeadsAsked) (t : Stored) (bytes index : List ℕ) (reason : TopReason)
+    → (fault : HeadFault) × (reason ≡ why.Bytes fault) × IsFault TopBytes (raw_head bytes) fault → AreFronts t bytes index → IsReason n asked t reason
+bytes_fault n asked t bytes index reason bad fronts =
+    subst (IsReason n asked t) (sym bad.1) (fronts.long, subst (λ (b : List ℕ). IsFault TopBytes (raw_head b) bad.0) fronts.bytes_are bad.2)
 
 has_bytes : (t : Stored) (bytes index : List ℕ) (head : Head) → AreFronts t bytes index → BlockOf bytes head × (head.kind ≡ TopBytes) → HasBytes t
 has_bytes t bytes index head fronts is = (fronts.long, has_block TopBytes t.bytes bytes head fronts.bytes_are is.0 is.1)
 
-pub rows_fault : (n : ℕ) (parent : Option (List ℕ)) (t : Stored) (bytes index : List ℕ) (head : Head) (reason : TopReason) → BlockOf bytes head × (head.kind ≡ TopBytes)
-    → (fault : HeadFault) × (reason ≡ why.Rows fault) × IsFault TopRows (raw_head index) fault → AreFronts t bytes index → IsReason n parent t reason
-rows_fault n parent t bytes index head reason is bad fronts =
-    subst (IsReason n parent t) (sym bad.1) (has_bytes t bytes index head fronts is, subst (λ (b : List ℕ). IsFault TopRows (raw_head b) bad.0) fronts.index_are bad.2)
+pub rows_fault : (n : ℕ) (asked : HeadsAsked) (t : Stored) (bytes index : List ℕ) (head : Head) (reason : TopReason) → BlockOf bytes head × (head.kind ≡ TopBytes)
+    → (fault : HeadFault) × (reason ≡ why.Rows fault) × IsFault TopRows (raw_head index) fault → AreFronts t bytes index → IsReason n asked t reason
+rows_fault n asked t bytes index head reason is bad fronts =
+    subst (IsReason n asked t) (sym bad.1) (has_bytes t bytes index head fronts is, subst (λ (b : List ℕ). IsFault TopRows (raw_head b) bad.0) fronts.index_are bad.2)
 
 has_blocks : (t : Stored) (bytes index : List ℕ) (head rows : Head) → AreFronts t bytes index → BlockOf bytes head × (head.kind ≡ TopBytes) → BlockOf index rows × (rows.kind ≡ TopRows) → HasBlocks t
 has_blocks t bytes index head rows fronts is are = (has_bytes t bytes index head fronts is, has_block TopRows t.index index rows fronts.index_are are.0 are.1)
 
-pub bytes_size : (n : ℕ) (parent : Option (List ℕ)) (t : Stored) (bytes index : List ℕ) (head rows : Head) → BlockOf bytes head × (head.kind ≡ TopBytes) → BlockOf index rows × (rows.kind ≡ TopRows)
-    → head.sectors ≢ n → AreFronts t bytes index → IsReason n parent t (why.HeadSize head.sectors)
-bytes_size n parent t bytes index head rows is are differs fronts =
+pub bytes_size : (n : ℕ) (asked : HeadsAsked) (t : Stored) (bytes index : List ℕ) (head rows : Head) → BlockOf bytes head × (head.kind ≡ TopBytes) → BlockOf index rows × (rows.kind ≡ TopRows)
+    → ¬ IsSizeFor asked.exact n head.sectors → AreFronts t bytes index → IsReason n asked t (why.HeadSize head.sectors)
+bytes_size n asked t bytes index head rows is are differs fronts =
     (has_blocks t bytes index head rows fronts is are, differs, inl (sym (size_is t.bytes bytes head fronts.bytes_are is.0)))
 
-pub rows_size : (n : ℕ) (parent : Option (List ℕ)) (t : Stored) (bytes index : List ℕ) (head rows : Head) → BlockOf bytes head × (head.kind ≡ TopBytes) → BlockOf index rows × (rows.kind ≡ TopRows)
-    → head.sectors ≡ n → rows.sectors ≢ n → AreFronts t bytes index → IsReason n parent t (why.HeadSize rows.sectors)
-rows_size n parent t bytes index head rows is are same differs fronts =
-    (has_blocks t bytes index head rows fronts is are, differs, inr (size_is t.bytes bytes head fronts.bytes_are is.0 ∙ same, sym (size_is t.index index rows fronts.index_are are.0)))
+pub rows_size : (n : ℕ) (asked : HeadsAsked) (t : Stored) (bytes index : List ℕ) (head rows : Head) → BlockOf bytes head × (head.kind ≡ TopBytes) → BlockOf index rows × (rows.kind ≡ TopRows)
+    → IsSizeFor asked.exact n head.sectors → ¬ IsSizeFor asked.exact n rows.sectors → AreFronts t bytes index → IsReason n asked t (why.HeadSize rows.sectors)
+rows_size n asked t bytes index head rows is are same differs fronts =
+    (has_blocks t bytes index head rows fronts is are, differs, inr (subst (IsSizeFor asked.exact n) (sym (size_is t.bytes bytes head fronts.bytes_are is.0)) same, sym (size_is t.index index rows fronts.index_are are.0)))
 
-has_sizes : (n : ℕ) (t : Stored) (bytes index : List ℕ) (head rows : Head) → AreFronts t bytes index → BlockOf bytes head × (head.kind ≡ TopBytes) → BlockOf index rows × (rows.kind ≡ TopRows)
-    → head.sectors ≡ n → rows.sectors ≡ n → HasSizes n t
-has_sizes n t bytes index head rows fronts is are same too =
-    (has_blocks t bytes index head rows fronts is are, size_is t.bytes bytes head fronts.bytes_are is.0 ∙ same, size_is t.index index rows fronts.index_are are.0 ∙ too)
-
-pub other_parent : (n : ℕ) (parent : Option (List ℕ)) (t : Stored) (bytes index : List ℕ) (head rows : Head) → BlockOf bytes head × (head.kind ≡ TopBytes) → BlockOf index rows × (rows.kind ≡ TopRows)
-    → head.sectors ≡ n → rows.sectors ≡ n → ¬ IsParent parent head.parent → AreFronts t bytes index → IsReason n parent t why.ParentDiffers
-other_parent n parent t bytes index head rows is are same too differs fronts = (
-  has_sizes n t bytes index head rows fronts is are same too,
-  λ asked. differs (subst (IsParent parent) (parent_is t.bytes bytes head fronts.bytes_are is.0) asked),
+has_sizes : (n : ℕ) (asked : HeadsAsked) (t : Stored) (bytes index : List ℕ) (head rows : Head) → AreFronts t bytes index → BlockOf bytes head × (head.kind ≡ TopBytes) → BlockOf index rows × (rows.kind ≡ TopRows)
+    → IsSizeFor asked.exact n head.sectors → IsSizeFor asked.exact n rows.sectors → HasSizes n asked t
+has_sizes n asked t bytes index head rows fronts is are same too = (
+  has_blocks t bytes index head rows fronts is are,
+  subst (IsSizeFor asked.exact n) (sym (size_is t.bytes bytes head fronts.bytes_are is.0)) same,
+  subst (IsSizeFor asked.exact n) (sym (size_is t.index index rows fronts.index_are are.0)) too,
 )
 
-pub has_parent : (n : ℕ) (parent : Option (List ℕ)) (t : Stored) (bytes index : List ℕ) (head rows : Head) → BlockOf bytes head × (head.kind ≡ TopBytes) → BlockOf index rows × (rows.kind ≡ TopRows)
-    → head.sectors ≡ n → rows.sectors ≡ n → IsParent parent head.parent → AreFronts t bytes index → HasParent n parent t
-has_parent n parent t bytes index head rows is are same too asked fronts = (
-  has_sizes n t bytes index head rows fronts is are same too,
-  subst (IsParent parent) (sym (parent_is t.bytes bytes head fronts.bytes_are is.0)) asked,
+pub other_parent : (n : ℕ) (asked : HeadsAsked) (t : Stored) (bytes index : List ℕ) (head rows : Head) → BlockOf bytes head × (head.kind ≡ TopBytes) → BlockOf index rows × (rows.kind ≡ TopRows)
+    → IsSizeFor asked.exact n head.sectors → IsSizeFor asked.exact n rows.sectors → ¬ IsParent asked.parent head.parent → AreFronts t bytes index → IsReason n asked t why.ParentDiffers
+other_parent n asked t bytes index head rows is are same too differs fronts = (
+  has_sizes n asked t bytes index head rows fronts is are same too,
+  λ wanted. differs (subst (IsParent asked.parent) (parent_is t.bytes bytes head fronts.bytes_are is.0) wanted),
+)
+
+pub has_parent : (n : ℕ) (asked : HeadsAsked) (t : Stored) (bytes index : List ℕ) (head rows : Head) → BlockOf bytes head × (head.kind ≡ TopBytes) → BlockOf index rows × (rows.kind ≡ TopRows)
+    → IsSizeFor asked.exact n head.sectors → IsSizeFor asked.exact n rows.sectors → IsParent asked.parent head.parent → AreFronts t bytes index → HasParent n asked t
+has_parent n asked t bytes index head rows is are same too wanted fronts = (
+  has_sizes n asked t bytes index head rows fronts is are same too,
+  subst (IsParent asked.parent) (sym (parent_is t.bytes bytes head fronts.bytes_are is.0)) wanted,
 )

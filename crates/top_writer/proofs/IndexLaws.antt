@@ -9,7 +9,7 @@ use Rattle.seg_mapping.specs.Rows.{RowOf}
 use Rattle.lsmt_header.specs.Blocks.{BlockOf, raw_head}
 use Rattle.flat_image.specs.RowCells.{AreSpelled}
 use Rattle.flat_image.proofs.SpelledRows.{spelled_joined, spelled_in}
-use Rattle.top_writer.specs.Files.{size_said}
+use Rattle.top_writer.specs.Files.{IsSizeFor, size_said, HeadsAsked}
 use Rattle.top_writer.specs.Fitting.{HasFront, IsIndex}
 use Rattle.top_writer.proofs.Fronts.{front_less, front_torn, piece_front}
 
@@ -23,29 +23,29 @@ spelled_front size at whole file (row ∷ rows) le front are = (
   spelled_front size (at + 16) whole file rows (omega (arith, le)) front are.1,
 )
 
-pub index_front : (n size : ℕ) (whole file : List ℕ) (rows : List Row) → 4096 + 16 * length rows ≤ size → HasFront size whole file → IsIndex n whole rows → IsIndex n file rows
+pub index_front : (n : ℕ) (asked : HeadsAsked) (size : ℕ) (whole file : List ℕ) (rows : List Row) → 4096 + 16 * length rows ≤ size → HasFront size whole file → IsIndex n asked whole rows → IsIndex n asked file rows
 unfolding size_said
-index_front n size whole file rows le front is =
+index_front n asked size whole file rows le front is =
     let same = (front_less 4096 size whole file (omega (arith, le)) front).same in
     record {
       head = (is.head.0, subst (λ (b : List ℕ). BlockOf b is.head.0) (sym same) is.head.1, is.head.2);
-      size = ap (λ (b : List ℕ). (raw_head b).sectors) same ∙ is.size;
+      size = subst (IsSizeFor asked.exact n) (sym (ap (λ (b : List ℕ). (raw_head b).sectors) same)) is.size;
       long = omega (arith, le, front.long);
       spelled = spelled_front size 4096 whole file rows le front is.spelled;
     }
 
 -- a write behind the rows leaves them, also where it is torn
-pub index_torn : (n at size : ℕ) (old new : List ℕ) (rows : List Row) → 4096 + 16 * length rows ≤ at → Torn at size old new → IsIndex n old rows → IsIndex n new rows
-index_torn n at size old new rows le torn is =
+pub index_torn : (n : ℕ) (asked : HeadsAsked) (at size : ℕ) (old new : List ℕ) (rows : List Row) → 4096 + 16 * length rows ≤ at → Torn at size old new → IsIndex n asked old rows → IsIndex n asked new rows
+index_torn n asked at size old new rows le torn is =
     let k : ℕ = 4096 + 16 * length rows in
-    index_front n k old new rows (omega arith) (front_torn k at size old old new le torn (front_itself k old is.long)) is
+    index_front n asked k old new rows (omega arith) (front_torn k at size old old new le torn (front_itself k old is.long)) is
 
 -- a write of more rows just behind them
-pub index_put : (n at : ℕ) (old bytes : List ℕ) (rows more : List Row) → 4096 + 16 * length rows ≡ at → length bytes ≡ 16 * length more
-    → AreSpelled bytes 0 more → IsIndex n old rows → IsIndex n (put old at bytes) (rows ++ more)
-index_put n at old bytes rows more is_at size spelled is =
+pub index_put : (n : ℕ) (asked : HeadsAsked) (at : ℕ) (old bytes : List ℕ) (rows more : List Row) → 4096 + 16 * length rows ≡ at → length bytes ≡ 16 * length more
+    → AreSpelled bytes 0 more → IsIndex n asked old rows → IsIndex n asked (put old at bytes) (rows ++ more)
+index_put n asked at old bytes rows more is_at size spelled is =
     let new : List ℕ = put old at bytes in
-    let first : IsIndex n new rows = index_torn n at (length bytes) old new rows (omega (arith, is_at)) (torn_put at (length bytes) old bytes (omega arith)) is in
+    let first : IsIndex n asked new rows = index_torn n asked at (length bytes) old new rows (omega (arith, is_at)) (torn_put at (length bytes) old bytes (omega arith)) is in
     let behind : bytes ≡ take (length bytes) (drop at new) =
     sym (ap (λ (k : ℕ). piece k (length bytes) new) (let e : at ≡ at + 0 = omega arith in e)
     ∙ put_piece old at bytes 0 (length bytes) (omega arith)

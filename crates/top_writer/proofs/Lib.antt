@@ -26,3 +26,4 @@ pub mod LoadedFile
 pub mod OneStand
 pub mod LoadLaws
 pub mod RunLaws
+pub mod GrowLaws

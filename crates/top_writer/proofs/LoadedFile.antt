@@ -11,6 +11,7 @@ use Rattle.seg_table.specs.declared.segment.What.TheVariants as what
 use Rattle.seg_table.specs.Cells.{cell_in}
 use Rattle.flat_image.specs.Sheets.{Cell, Hole, Filled, zero_sector}
 use Rattle.flat_image.specs.RowCells.{sector_at, cell_of}
+use Rattle.top_writer.specs.Files.{HeadsAsked}
 use Rattle.top_writer.specs.Blank.{blank_cell, blank_sheet}
 use Rattle.top_writer.specs.Fitting.{HasFront, IsData, IsTableOf}
 use Rattle.top_writer.specs.Rows.{top_sheet}
@@ -33,10 +34,10 @@ first_block true filled block bytes size is =
     take-take 4096 (4096 + 512 * filled) bytes (omega arith) ∙ sym (ap (λ (b : List ℕ). take 4096 b) (is refl) ∙ take-take 4096 4096 bytes (omega arith))
 first_block false filled block bytes size is = take-append-le 4096 block (replicate {A = ℕ} (512 * filled) 0) (omega (arith, size))
 
-pub head-data_of : (tells : Bool) (filled n : ℕ) (parent : Option (List ℕ)) (block bytes : List ℕ) → length block ≡ 4096 → (IsTrue tells → block ≡ take 4096 bytes)
-    → IsData n parent block → IsData n parent (data_of tells filled block bytes)
-head-data_of tells filled n parent block bytes size is head =
-    same_head n parent block (data_of tells filled block bytes) (first_block tells filled block bytes size is) head
+pub head-data_of : (tells : Bool) (filled n : ℕ) (asked : HeadsAsked) (block bytes : List ℕ) → length block ≡ 4096 → (IsTrue tells → block ≡ take 4096 bytes)
+    → IsData n asked block → IsData n asked (data_of tells filled block bytes)
+head-data_of tells filled n asked block bytes size is head =
+    same_head n asked block (data_of tells filled block bytes) (first_block tells filled block bytes size is) head
 
 pub front-data_of : (tells : Bool) (filled : ℕ) (block bytes : List ℕ) → IsTrue tells → 4096 + 512 * filled ≤ length bytes
     → HasFront (4096 + 512 * filled) (data_of tells filled block bytes) bytes

@@ -21,7 +21,7 @@ use Rattle.seg_table.specs.Cells.{cell_in}
 use Rattle.flat_image.specs.Left.{fresh_stand}
 use Rattle.flat_image.specs.RowCells.{cell_of, AreSpelled}
 use Rattle.flat_image.specs.Sheets.{Cell, Hole}
-use Rattle.top_writer.specs.Files.{data_file, index_file, mark_file, TopFiles, HasBlock, size_said, parent_said, new_head, rows_said, sectors_said}
+use Rattle.top_writer.specs.Files.{data_file, index_file, mark_file, TopFiles, HasBlock, HasSectors, asked_of, size_said, parent_said, new_head, rows_said, sectors_said}
 use Rattle.top_writer.specs.Fitting.{IsIndex, ViewFits}
 use Rattle.top_writer.specs.Making.{IsMade, IsNewMark}
 use Rattle.top_writer.specs.Rows.{IsTopRow}
@@ -82,9 +82,11 @@ sheet_none file at (suc n) = ap (λ (cells : List Cell). Hole ∷ cells) (sheet_
 made_head : (kind : Kind) (n : ℕ) (parent block file : List ℕ) → BlockOf block (new_head kind n parent) → length block ≡ 4096 → take 4096 file ≡ block → HasBlock kind file
 made_head kind n parent block file is long same = (new_head kind n parent, subst (λ (b : List ℕ). BlockOf b (new_head kind n parent)) (sym same) is, refl)
 
-made_size : (kind : Kind) (n : ℕ) (parent block file : List ℕ) → BlockOf block (new_head kind n parent) → take 4096 file ≡ block → size_said file ≡ n
+made_size : (kind : Kind) (n : ℕ) (exact : Bool) (parent block file : List ℕ) → BlockOf block (new_head kind n parent) → take 4096 file ≡ block → HasSectors exact n file
 unfolding size_said
-made_size kind n parent block file is same = ap (λ (b : List ℕ). (raw_head b).sectors) same ∙ ap (λ r. r.sectors) (raw_of-block block (new_head kind n parent) is)
+made_size kind n exact parent block file is same =
+    let e : size_said file ≡ n = ap (λ (b : List ℕ). (raw_head b).sectors) same ∙ ap (λ r. r.sectors) (raw_of-block block (new_head kind n parent) is) in
+    record { within = omega (arith, e); same = λ is_exact. e }
 
 made_parent : (kind : Kind) (n : ℕ) (parent block file : List ℕ) → BlockOf block (new_head kind n parent) → take 4096 file ≡ block → parent_said file ≡ parent
 unfolding parent_said
@@ -96,12 +98,12 @@ none_there segments i place none some = none_is_some place (sym none ∙ some)
 all_none : {X : Type 0} (P : X → Type 0) → All P []
 all_none P = λ k d lt. absurd (omega (arith, lt))
 
-pub made_fits : (tells : Bool) (now : DiskState) (n : ℕ) (parent : List ℕ) (v : TopView) (mark : Mark)
+pub made_fits : (tells : Bool) (now : DiskState) (n : ℕ) (exact : Bool) (parent : List ℕ) (v : TopView) (mark : Mark)
     → v.epoch ≤ 255 → v.sectors ≡ n → v.mark ≡ mark → v.synced ≡ 0 → v.rows ≡ 0 → v.filled ≡ 0 → v.waiting ≡ []
     → ((i : ℕ) → cell_in v.segments i ≡ None)
     → IsMade tells now (data_file v.epoch) (new_head TopBytes n parent) → IsMade tells now (index_file v.epoch) (new_head TopRows n nil) → IsNewMark now (mark_file v.epoch) mark
-    → ViewFits tells now n (Some parent) v (fresh_stand n) (fresh_stand n ∷ [])
-made_fits tells now n parent v mark epoch sectors mark_same synced rows filled waiting cells data_made index_made new =
+    → ViewFits tells now n (asked_of exact (Some parent)) v (fresh_stand n) (fresh_stand n ∷ [])
+made_fits tells now n exact parent v mark epoch sectors mark_same synced rows filled waiting cells data_made index_made new =
     let file : List ℕ = data_made.block in
     let none : List Row = [] in
     let whole : take 4096 file ≡ file = take_all 4096 file (omega (arith, data_made.long)) in
@@ -114,7 +116,7 @@ made_fits tells now n parent v mark epoch sectors mark_same synced rows filled w
         sectors = sectors;
         head = record {
           head = made_head TopBytes n parent file file data_made.is data_made.long whole;
-          size = made_size TopBytes n parent file file data_made.is whole;
+          size = made_size TopBytes n exact parent file file data_made.is whole;
           parent_is = made_parent TopBytes n parent file file data_made.is whole;
         };
         long = omega (arith, data_made.long, filled);
@@ -141,9 +143,9 @@ made_fits tells now n parent v mark epoch sectors mark_same synced rows filled w
         bytes_left = λ c left. let same = data_made.left c left in record { long = omega (arith, ap length same, data_made.long); same = ap (take 4096) same };
         index_left = λ c left. let same = index_made.left c left in
             let front : take 4096 c ≡ index_made.block = ap (take 4096) same ∙ take_all 4096 index_made.block (omega (arith, index_made.long)) in
-            subst (IsIndex n c) (sym (no_rows v.synced)) (record {
+            subst (IsIndex n (asked_of exact (Some parent)) c) (sym (no_rows v.synced)) (record {
               head = made_head TopRows n nil index_made.block c index_made.is index_made.long front;
-              size = made_size TopRows n nil index_made.block c index_made.is front;
+              size = made_size TopRows n exact nil index_made.block c index_made.is front;
               long = omega (arith, ap length same, index_made.long);
               spelled = tt;
             });

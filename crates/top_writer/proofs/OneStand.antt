@@ -21,7 +21,7 @@ use Rattle.top_writer.specs.declared.fault.TopFault.{TopFault}
 use Rattle.top_writer.specs.declared.fault.TopFault.TheVariants.{Memory, Failed, NoTop}
 use Rattle.top_writer.specs.declared.fault.TopReason.{TopReason}
 use Rattle.top_writer.specs.declared.fault.TopReason.TheVariants as why
-use Rattle.top_writer.specs.Files.{Stored, HasBlock, rows_said, sectors_said}
+use Rattle.top_writer.specs.Files.{Stored, HasBlock, IsSizeFor, rows_said, sectors_said, HeadsAsked}
 use Rattle.top_writer.specs.Loading.{IsRefused}
 use Rattle.top_writer.specs.Reasons.{HasMark, HasCounts, StopsAtRow, IsRowReason, IsReason}
 use Rattle.top_writer.specs.Rows.{IsStored, IsTopRow, top_sheet}
@@ -89,8 +89,8 @@ same_body : (file : List ℕ) (one other : ℕ) (body text : List ℕ) → Shows
 same_body file one other body text h k = ap text_in (sym h ∙ k)
 
 -- so what the mark counts is what the top has
-same_counts : (n : ℕ) (parent : Option (List ℕ)) (s : Stand) (t : Stored) (rows filled : ℕ) → ShowsTop n parent s t → HasCounts n parent t rows filled → (rows ≡ s.rows) × (filled ≡ s.filled)
-same_counts n parent s t rows filled shows counts =
+same_counts : (n : ℕ) (asked : HeadsAsked) (s : Stand) (t : Stored) (rows filled : ℕ) → ShowsTop n asked s t → HasCounts n asked t rows filled → (rows ≡ s.rows) × (filled ≡ s.filled)
+same_counts n asked s t rows filled shows counts =
     let same : counts.body ≡ shows.body = same_body t.mark counts.mark.sequence shows.sequence counts.body shows.body counts.mark.mark shows.mark in
     (sym counts.rows_are ∙ ap rows_said same ∙ shows.counts.rows_are, sym counts.sectors_are ∙ ap sectors_said same ∙ shows.counts.sectors_are)
 
@@ -98,10 +98,10 @@ same_counts n parent s t rows filled shows counts =
 no_row : Row
 no_row = record { offset = 0; count = 0; place = 0; zeroed = false; tag = 0 }
 
-no_stop : (n : ℕ) (parent : Option (List ℕ)) (s : Stand) (t : Stored) (reason : TopReason) → ShowsTop n parent s t → StopsAtRow n parent t reason → ⊥
-no_stop n parent s t reason shows stop =
+no_stop : (n : ℕ) (asked : HeadsAsked) (s : Stand) (t : Stored) (reason : TopReason) → ShowsTop n asked s t → StopsAtRow n asked t reason → ⊥
+no_stop n asked s t reason shows stop =
     let k : ℕ = length stop.before in
-    let same = same_counts n parent s t stop.count stop.filled shows stop.whole.counts in
+    let same = same_counts n asked s t stop.count stop.filled shows stop.whole.counts in
     let more = stop.more in
     let few : k < length shows.rows = omega (arith, more, same.0, shows.number) in
     let row : Row = get_or shows.rows k no_row in
@@ -115,20 +115,20 @@ sound_head : (kind : Kind) (file : List ℕ) (fault : HeadFault) → HasBlock ki
 sound_head kind file fault has bad =
     no_fault kind has.0 fault has.2 has.1.valid has.1.fits (subst (λ (raw : RawHead). IsFault kind raw fault) (raw_of-block (take 4096 file) has.0 has.1) bad)
 
-pub no_reason : (n : ℕ) (parent : Option (List ℕ)) (s : Stand) (t : Stored) (shows : ShowsTop n parent s t) → shows.sequence ≤ 2 ^ 61 → (reason : TopReason) → IsReason n parent t reason → ⊥
-no_reason n parent s t shows low why.HeadShort bad = let bytes = shows.bytes_long in let index = shows.index_long in bad (omega (arith, bytes), omega (arith, index))
-no_reason n parent s t shows low (why.Bytes fault) bad = sound_head TopBytes t.bytes fault shows.heads.bytes_head bad.1
-no_reason n parent s t shows low (why.Rows fault) bad = sound_head TopRows t.index fault shows.heads.index_head bad.1
-no_reason n parent s t shows low (why.HeadSize size) bad = elim bad.2 [
-  | inl first ↦ bad.1 (first ∙ shows.heads.bytes_size)
-  | inr second ↦ bad.1 (second.1 ∙ shows.heads.index_size)
+pub no_reason : (n : ℕ) (asked : HeadsAsked) (s : Stand) (t : Stored) (shows : ShowsTop n asked s t) → shows.sequence ≤ 2 ^ 61 → (reason : TopReason) → IsReason n asked t reason → ⊥
+no_reason n asked s t shows low why.HeadShort bad = let bytes = shows.bytes_long in let index = shows.index_long in bad (omega (arith, bytes), omega (arith, index))
+no_reason n asked s t shows low (why.Bytes fault) bad = sound_head TopBytes t.bytes fault shows.heads.bytes_head bad.1
+no_reason n asked s t shows low (why.Rows fault) bad = sound_head TopRows t.index fault shows.heads.index_head bad.1
+no_reason n asked s t shows low (why.HeadSize size) bad = elim bad.2 [
+  | inl first ↦ bad.1 (subst (IsSizeFor asked.exact n) (sym first) shows.heads.bytes_size)
+  | inr second ↦ bad.1 (subst (IsSizeFor asked.exact n) (sym second.1) shows.heads.index_size)
 ]
-no_reason n parent s t shows low why.ParentDiffers bad = bad.1 shows.heads.parent_is
-no_reason n parent s t shows low why.NoMark bad = let mark = shows.mark in let none = bad.1 in cc
-no_reason n parent s t shows low (why.MarkWorn sequence) bad =
+no_reason n asked s t shows low why.ParentDiffers bad = bad.1 shows.heads.parent_is
+no_reason n asked s t shows low why.NoMark bad = let mark = shows.mark in let none = bad.1 in cc
+no_reason n asked s t shows low (why.MarkWorn sequence) bad =
     let same = same_number t.mark sequence shows.sequence bad.1.0 shows.body bad.1.1 shows.mark in let high = bad.2 in omega (arith, same, high, low)
-no_reason n parent s t shows low (why.MarkBad rows sectors) bad =
-    let mark : HasMark n parent t bad.0 = bad.1 in
+no_reason n asked s t shows low (why.MarkBad rows sectors) bad =
+    let mark : HasMark n asked t bad.0 = bad.1 in
     let same : bad.0 ≡ shows.body = same_body t.mark mark.sequence shows.sequence bad.0 shows.body mark.mark shows.mark in
     let rows_are : rows ≡ s.rows = bad.2 ∙ ap rows_said same ∙ shows.counts.rows_are in
     let sectors_are : sectors ≡ s.filled = bad.3 ∙ ap sectors_said same ∙ shows.counts.sectors_are in
@@ -137,23 +137,23 @@ no_reason n parent s t shows low (why.MarkBad rows sectors) bad =
       | inl many ↦ omega (arith, many, rows_are, few)
       | inr large ↦ omega (arith, large, sectors_are, small)
     ]
-no_reason n parent s t shows low why.ShortRows bad =
-    let same = same_counts n parent s t bad.0 bad.1 shows bad.2 in let short = bad.3 in let long = shows.index_long in omega (arith, same.0, short, long)
-no_reason n parent s t shows low why.ShortBytes bad =
-    let same = same_counts n parent s t bad.0 bad.1 shows bad.2 in let short = bad.4 in let long = shows.bytes_long in omega (arith, same.1, short, long)
-no_reason n parent s t shows low (why.Row number fault) bad = no_stop n parent s t (why.Row number fault) shows bad
-no_reason n parent s t shows low (why.RowRange number) bad = no_stop n parent s t (why.RowRange number) shows bad
-no_reason n parent s t shows low (why.RowPlace number) bad = no_stop n parent s t (why.RowPlace number) shows bad
+no_reason n asked s t shows low why.ShortRows bad =
+    let same = same_counts n asked s t bad.0 bad.1 shows bad.2 in let short = bad.3 in let long = shows.index_long in omega (arith, same.0, short, long)
+no_reason n asked s t shows low why.ShortBytes bad =
+    let same = same_counts n asked s t bad.0 bad.1 shows bad.2 in let short = bad.4 in let long = shows.bytes_long in omega (arith, same.1, short, long)
+no_reason n asked s t shows low (why.Row number fault) bad = no_stop n asked s t (why.Row number fault) shows bad
+no_reason n asked s t shows low (why.RowRange number) bad = no_stop n asked s t (why.RowRange number) shows bad
+no_reason n asked s t shows low (why.RowPlace number) bad = no_stop n asked s t (why.RowPlace number) shows bad
 
-pub no_refusal : (n : ℕ) (parent : Option (List ℕ)) (s : Stand) (t : Stored) (shows : ShowsTop n parent s t) → shows.sequence ≤ 2 ^ 61 → (fault : TopFault) → IsRefused n parent t fault
+pub no_refusal : (n : ℕ) (asked : HeadsAsked) (s : Stand) (t : Stored) (shows : ShowsTop n asked s t) → shows.sequence ≤ 2 ^ 61 → (fault : TopFault) → IsRefused n asked t fault
     → (fault ≡ Memory) ⊎ (fault ≡ Failed)
-no_refusal n parent s t shows low Memory bad = inl refl
-no_refusal n parent s t shows low Failed bad = inr refl
-no_refusal n parent s t shows low (NoTop reason) bad = absurd (no_reason n parent s t shows low reason bad)
+no_refusal n asked s t shows low Memory bad = inl refl
+no_refusal n asked s t shows low Failed bad = inr refl
+no_refusal n asked s t shows low (NoTop reason) bad = absurd (no_reason n asked s t shows low reason bad)
 
 -- files show one top at most
-pub one_stand : (n : ℕ) (parent : Option (List ℕ)) (one other : Stand) (t : Stored) → ShowsTop n parent one t → ShowsTop n parent other t → one ≡ other
-one_stand n parent one other t h k =
+pub one_stand : (n : ℕ) (asked : HeadsAsked) (one other : Stand) (t : Stored) → ShowsTop n asked one t → ShowsTop n asked other t → one ≡ other
+one_stand n asked one other t h k =
     let same : h.body ≡ k.body = same_body t.mark h.sequence k.sequence h.body k.body h.mark k.mark in
     let rows_are : one.rows ≡ other.rows = sym h.counts.rows_are ∙ ap rows_said same ∙ k.counts.rows_are in
     let filled_are : one.filled ≡ other.filled = sym h.counts.sectors_are ∙ ap sectors_said same ∙ k.counts.sectors_are in

@@ -13,7 +13,7 @@ use Rattle.seg_table.specs.Cells.{cell_in}
 use Rattle.flat_image.specs.Sheets.{Cell, Hole, paint, bytes_of, image_in}
 use Rattle.flat_image.specs.Left.{Stand}
 use Rattle.flat_image.specs.RowCells.{cell_of}
-use Rattle.top_writer.specs.Files.{data_file}
+use Rattle.top_writer.specs.Files.{data_file, HeadsAsked}
 use Rattle.top_writer.specs.Fitting.{Holds, ViewFits}
 use Rattle.top_writer.specs.Gaps.{Paints, IsHole, AddsGaps}
 use Rattle.top_writer.specs.Reading.{AreLow, IsRead}
@@ -43,20 +43,20 @@ map_same f g at count same =
     ∙ sym (get_or-map-range_with_len g at count i (at + i) Hole below refl))
 
 -- the cells by the table, where the data file reads so
-seen_cells : (tells : Bool) (now : DiskState) (n : ℕ) (parent : Option (List ℕ)) (v : TopView) (s : Stand) (may : List Stand) (at count : ℕ) → at + count ≤ n → ViewFits tells now n parent v s may
+seen_cells : (tells : Bool) (now : DiskState) (n : ℕ) (asked : HeadsAsked) (v : TopView) (s : Stand) (may : List Stand) (at count : ℕ) → at + count ≤ n → ViewFits tells now n asked v s may
     → IsTrue tells → map (λ i. cell_at (now.seen (data_file v.epoch)) (cell_in v.segments i)) (range_with_len at count) ≡ take count (drop at s.cells)
-seen_cells tells now n parent v s may at count within fits told =
+seen_cells tells now n asked v s may at count within fits told =
     let holds = fits.holds in
     map_same (λ i. cell_at (now.seen (data_file v.epoch)) (cell_in v.segments i)) (cell_of fits.file (reverse fits.rows)) at count
     (λ i low high. place_front v.filled fits.file (now.seen (data_file v.epoch)) (cell_in v.segments i) (holds.table.to i) (fits.lasts.seen told) ∙ holds.table.same i (omega (arith, high, within)))
     ∙ sym (sheet_part (cell_of fits.file (reverse fits.rows)) at count n within)
     ∙ ap (λ (cells : List Cell). take count (drop at cells)) (sym holds.cells)
 
-pub read_paints : (tells : Bool) (now : DiskState) (n : ℕ) (parent : Option (List ℕ)) (v : TopView) (s : Stand) (may : List Stand) (extent : Extent) (start out : List ℕ) (gaps_then gaps : List Extent)
+pub read_paints : (tells : Bool) (now : DiskState) (n : ℕ) (asked : HeadsAsked) (v : TopView) (s : Stand) (may : List Stand) (extent : Extent) (start out : List ℕ) (gaps_then gaps : List Extent)
     → extent.at + extent.count ≤ v.sectors → length start ≡ 512 * extent.count
     → IsRead tells (now.seen (data_file v.epoch)) (cell_in v.segments) extent.at (extent.at + extent.count) start out gaps_then gaps
-    → IsTrue tells → ViewFits tells now n parent v s may → Paints s.cells extent.at extent.count start out
-read_paints tells now n parent v s may extent start out gaps_then gaps within size read told fits =
+    → IsTrue tells → ViewFits tells now n asked v s may → Paints s.cells extent.at extent.count start out
+read_paints tells now n asked v s may extent start out gaps_then gaps within size read told fits =
     let in_image : extent.at + extent.count ≤ n = omega (arith, within, fits.holds.sectors) in
     let count : extent.at + extent.count - extent.at ≡ extent.count = omega arith in
     let f : ℕ → Cell = λ i. cell_at (now.seen (data_file v.epoch)) (cell_in v.segments i) in
@@ -65,7 +65,7 @@ read_paints tells now n parent v s may extent start out gaps_then gaps within si
     ∙ append-nil read.front
     ∙ read.painted told
     ∙ ap (λ (k : ℕ). bytes_of (paint (image_in k start) (map f (range_with_len extent.at k)))) count
-    ∙ ap (λ (cells : List Cell). bytes_of (paint (image_in extent.count start) cells)) (seen_cells tells now n parent v s may extent.at extent.count in_image fits told)
+    ∙ ap (λ (cells : List Cell). bytes_of (paint (image_in extent.count start) cells)) (seen_cells tells now n asked v s may extent.at extent.count in_image fits told)
 
 -- a cell is a hole just where the table has nothing
 none_hole : (file : List ℕ) (o : Option What) → cell_at file o ≡ Hole → o ≡ None
@@ -76,21 +76,21 @@ none_hole file (Some (what.Place place)) is = cc
 hole_none : (file : List ℕ) (o : Option What) → o ≡ None → cell_at file o ≡ Hole
 hole_none file o is = ap (cell_at file) is
 
-top_cell : (n : ℕ) (parent : Option (List ℕ)) (v : TopView) (s : Stand) (file : List ℕ) (rows : List Row) (i : ℕ) → i < n → Holds n parent v s file rows
+top_cell : (n : ℕ) (asked : HeadsAsked) (v : TopView) (s : Stand) (file : List ℕ) (rows : List Row) (i : ℕ) → i < n → Holds n asked v s file rows
     → slice_index_or s.cells i Hole ≡ cell_at file (cell_in v.segments i)
-top_cell n parent v s file rows i lt holds =
+top_cell n asked v s file rows i lt holds =
     ap (λ (cells : List Cell). get_or cells i Hole) holds.cells
     ∙ get_or-map-range_with_len (cell_of file (reverse rows)) 0 n i i Hole lt (omega arith)
     ∙ sym (holds.table.same i lt)
 
-pub read_gaps : (tells : Bool) (now : DiskState) (n : ℕ) (parent : Option (List ℕ)) (v : TopView) (s : Stand) (may : List Stand) (file : List ℕ) (extent : Extent) (start out : List ℕ) (gaps_then gaps : List Extent)
+pub read_gaps : (tells : Bool) (now : DiskState) (n : ℕ) (asked : HeadsAsked) (v : TopView) (s : Stand) (may : List Stand) (file : List ℕ) (extent : Extent) (start out : List ℕ) (gaps_then gaps : List Extent)
     → extent.at + extent.count ≤ v.sectors
     → IsRead tells file (cell_in v.segments) extent.at (extent.at + extent.count) start out gaps_then gaps
-    → ViewFits tells now n parent v s may → AddsGaps (IsHole s.cells) extent.at (extent.at + extent.count) gaps_then gaps
-read_gaps tells now n parent v s may file extent start out gaps_then gaps within read fits =
+    → ViewFits tells now n asked v s may → AddsGaps (IsHole s.cells) extent.at (extent.at + extent.count) gaps_then gaps
+read_gaps tells now n asked v s may file extent start out gaps_then gaps within read fits =
     let holds = fits.holds in
     let cell : (i : ℕ) → i < extent.at + extent.count → slice_index_or s.cells i Hole ≡ cell_at fits.file (cell_in v.segments i) =
-    λ i high. top_cell n parent v s fits.file fits.rows i (omega (arith, high, within, holds.sectors)) holds in
+    λ i high. top_cell n asked v s fits.file fits.rows i (omega (arith, high, within, holds.sectors)) holds in
     record {
       added = read.gaps_added.added;
       behind = read.gaps_added.behind;
@@ -101,5 +101,5 @@ read_gaps tells now n parent v s may file extent start out gaps_then gaps within
     }
 
 -- no place of a top's table is past what a disk can hold
-pub low_places : (tells : Bool) (now : DiskState) (n : ℕ) (parent : Option (List ℕ)) (v : TopView) (s : Stand) (may : List Stand) → ViewFits tells now n parent v s may → AreLow (cell_in v.segments)
-low_places tells now n parent v s may fits i place is = let below = fits.holds.table.to i place is in let room = fits.holds.room.sectors_fit in omega (arith, below, room)
+pub low_places : (tells : Bool) (now : DiskState) (n : ℕ) (asked : HeadsAsked) (v : TopView) (s : Stand) (may : List Stand) → ViewFits tells now n asked v s may → AreLow (cell_in v.segments)
+low_places tells now n asked v s may fits i place is = let below = fits.holds.table.to i place is in let room = fits.holds.room.sectors_fit in omega (arith, below, room)

@@ -14,9 +14,11 @@ use Rattle.flat_image.specs.Sheets.{Zero, Filled}
 use Rattle.flat_image.specs.RowCells.{sector_at, covers, cell_by, cell_of, AreSpelled}
 use Rattle.flat_image.proofs.CellLaws.{covers-behind, covers-from, covers-below}
 use Rattle.flat_image.proofs.SpelledRows.{spelled_joined, spelled_in, piece_row}
+use Rattle.top_writer.specs.declared.fault.TopFault.{TopFault}
+use Rattle.top_writer.specs.declared.fault.TopFault.TheVariants.{Memory, Failed, NoTop}
 use Rattle.top_writer.specs.declared.fault.TopReason.{TopReason}
 use Rattle.top_writer.specs.Fitting.{IsTableOf}
-use Rattle.top_writer.specs.Loading.{what_by, entry_of, Puts, Stops, AreLoaded}
+use Rattle.top_writer.specs.Loading.{what_by, entry_of, Puts, Stops, StopsPutting, StopsReading, AreLoaded}
 use Rattle.top_writer.specs.Reasons.{IsRowReason}
 use Rattle.top_writer.specs.Rows.{IsStored, IsTopRow}
 use Rattle.top_writer.specs.View.{cell_at}
@@ -125,6 +127,14 @@ loading_stops tells n filled index piece count more size total mid reason so_far
       here = subst (λ (j : ℕ). IsRowReason n filled (take 16 (drop (4096 + 16 * length (rows ++ added)) index)) j reason) (let e : count + k ≡ 0 + length (rows ++ added) = omega (arith, both) in e)
           (subst (λ (bs : List ℕ). IsRowReason n filled bs (count + k) reason) bytes stops.here);
     }
+
+pub putting_stops : (tells : Bool) (n filled : ℕ) (index piece : List ℕ) (count more size total : ℕ) (mid : List Segment) (fault : TopFault) → AreLoaded tells n filled index count mid
+    → StopsPutting n filled piece count more fault → 16 * more ≤ size → count + more ≤ total → IsTrue tells → piece ≡ take size (drop (4096 + 16 * count) index)
+    → StopsReading n filled index total fault
+putting_stops tells n filled index piece count more size total mid Memory so_far stops fits few told is = tt
+putting_stops tells n filled index piece count more size total mid Failed so_far stops fits few told is = tt
+putting_stops tells n filled index piece count more size total mid (NoTop reason) so_far stops fits few told is =
+    loading_stops tells n filled index piece count more size total mid reason so_far stops fits few told is
 
 -- what a row says is what the table says
 row_says : (file : List ℕ) (row : Row) (i : ℕ) → cell_at file (Some (what_by row i)) ≡ cell_by file row i

@@ -9,7 +9,7 @@ use Rattle.block_disk.proofs.Moments.{run_weakened}
 use Rattle.flat_image.specs.Left.{Stand}
 use Rattle.top_writer.specs.declared.top.Top.{Top}
 use Rattle.top_writer.specs.Fitting.{TopFits, TopGoes}
-use Rattle.top_writer.specs.Files.{TopFiles}
+use Rattle.top_writer.specs.Files.{TopFiles, HeadsAsked}
 use Rattle.top_writer.specs.Runs.{Call, Wrote, Zeroed, Flushed, FlushFailed, Refused, becomes, leaves, stand_after, left_after, left_by, flushes, IsFlush, AreUnflushed, IsFlushedFront, ShowsFront, FitsAfter, GoesOn}
 use Rattle.top_writer.specs.Showing.{ShowsOne}
 use Rattle.top_writer.specs.Stands.{unchanged, as_before, this_too}
@@ -129,10 +129,10 @@ tried_left front rest call s may is none =
     (flush_contains call rest (stand_after s front) (left_after s may front) is none)
 
 -- files that a crash leaves now
-pub shows_now : (tells : Bool) (now : DiskState) (n : ℕ) (parent : Option (List ℕ)) (p : Top) (s : Stand) (calls : List Call) (files : Files)
-    → FitsAfter tells now n parent p s calls → Leaves now files → ShowsFront (epoch_of p) n parent s calls files
-shows_now tells now n parent p s calls files fits leaves =
-    let one = fits_shown tells now n parent (view_of p) (stand_after s calls) (left_by s calls) fits files leaves in
+pub shows_now : (tells : Bool) (now : DiskState) (n : ℕ) (asked : HeadsAsked) (p : Top) (s : Stand) (calls : List Call) (files : Files)
+    → FitsAfter tells now n asked p s calls → Leaves now files → ShowsFront (epoch_of p) n asked s calls files
+shows_now tells now n asked p s calls files fits leaves =
+    let one = fits_shown tells now n asked (view_of p) (stand_after s calls) (left_by s calls) fits files leaves in
     record {
       stand = one.stand;
       front = All-contains (IsFlushedFront s calls) (left_by s calls) one.stand (left_fronts s calls) one.among;
@@ -140,24 +140,24 @@ shows_now tells now n parent p s calls files fits leaves =
     }
 
 -- files that show one of those show the top after a front
-pub shows_front : (epoch n : ℕ) (parent : Option (List ℕ)) (s : Stand) (calls : List Call) (files : Files)
-    → ShowsOne epoch n parent (this_too (stand_after s calls) (left_by s calls)) files → ShowsFront epoch n parent s calls files
-shows_front epoch n parent s calls files one = record {
+pub shows_front : (epoch n : ℕ) (asked : HeadsAsked) (s : Stand) (calls : List Call) (files : Files)
+    → ShowsOne epoch n asked (this_too (stand_after s calls) (left_by s calls)) files → ShowsFront epoch n asked s calls files
+shows_front epoch n asked s calls files one = record {
   stand = one.stand;
   front = All-contains (IsFlushedFront s calls) (this_too (stand_after s calls) (left_by s calls)) one.stand (moment_fronts s calls) one.among;
   shows = one.shows;
 }
 
 -- a call on a top that is what some calls made of s
-pub goes_on : (tells : Bool) (old new : DiskState) (n : ℕ) (parent : Option (List ℕ)) (p q : Top) (s : Stand) (calls : List Call) (call : Call)
-    → FitsAfter tells old n parent p s calls → TopGoes tells old new p q (becomes call) (leaves call) → GoesOn tells old new n parent p q s calls call
-goes_on tells old new n parent p q s calls call fits goes = record {
-  fits = subst (λ (t : Stand). TopFits tells new n parent q t (left_by s (calls ++ call ∷ []))) (sym (stand-append s calls (call ∷ [])))
-      (subst (λ (l : List Stand). TopFits tells new n parent q (becomes call (stand_after s calls)) l) (sym (left-append s (s ∷ []) calls (call ∷ [])))
-      (goes.fits n parent (stand_after s calls) (left_by s calls) fits));
-  any_moment = run_weakened {I = Unit {0}} (TopFiles (epoch_of p)) old new (λ u. ShowsOne (epoch_of p) n parent (this_too (stand_after s calls) (left_by s calls)))
-      (ShowsFront (epoch_of p) n parent s calls) (goes.any_moment n parent (stand_after s calls) (left_by s calls) fits)
-      (λ u files beside. shows_front (epoch_of p) n parent s calls files beside.has);
+pub goes_on : (tells : Bool) (old new : DiskState) (n : ℕ) (asked : HeadsAsked) (p q : Top) (s : Stand) (calls : List Call) (call : Call)
+    → FitsAfter tells old n asked p s calls → TopGoes tells old new p q (becomes call) (leaves call) → GoesOn tells old new n asked p q s calls call
+goes_on tells old new n asked p q s calls call fits goes = record {
+  fits = subst (λ (t : Stand). TopFits tells new n asked q t (left_by s (calls ++ call ∷ []))) (sym (stand-append s calls (call ∷ [])))
+      (subst (λ (l : List Stand). TopFits tells new n asked q (becomes call (stand_after s calls)) l) (sym (left-append s (s ∷ []) calls (call ∷ [])))
+      (goes.fits n asked (stand_after s calls) (left_by s calls) fits));
+  any_moment = run_weakened {I = Unit {0}} (TopFiles (epoch_of p)) old new (λ u. ShowsOne (epoch_of p) n asked (this_too (stand_after s calls) (left_by s calls)))
+      (ShowsFront (epoch_of p) n asked s calls) (goes.any_moment n asked (stand_after s calls) (left_by s calls) fits)
+      (λ u files beside. shows_front (epoch_of p) n asked s calls files beside.has);
 }
 
 -- a call that changes no file
@@ -166,15 +166,15 @@ goes_quiet tells old new p quiet = record {
   epoch = refl;
   sectors = refl;
   sequence = omega arith;
-  fits = λ n parent s may fits. fits_quiet tells old new n parent p s may quiet fits;
-  any_moment = λ n parent s may fits. record {
+  fits = λ n asked s may fits. fits_quiet tells old new n asked p s may quiet fits;
+  any_moment = λ n asked s may fits. record {
     leaves = record {
       later = quiet.leaves.later;
       past = quiet.leaves.past;
       each = λ k from to. (
         tt,
         λ files left. let there = (quiet.leaves.each k from to).1 files left in record {
-          has = shows_here tells old n parent (view_of p) s may fits files (λ f. there.others f (λ x. x));
+          has = shows_here tells old n asked (view_of p) s may fits files (λ f. there.others f (λ x. x));
           others = λ f apart. there.others f (λ x. x);
         },
       );

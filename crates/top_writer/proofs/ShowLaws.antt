@@ -13,7 +13,7 @@ use Rattle.seg_mapping.specs.declared.Row.{Row}
 use Rattle.lsmt_header.specs.Blocks.{BlockOf, raw_head}
 use Rattle.flat_image.specs.Left.{Stand}
 use Rattle.flat_image.specs.RowCells.{AreSpelled}
-use Rattle.top_writer.specs.Files.{Stored, data_file, index_file, mark_file, size_said, parent_said, IsParent}
+use Rattle.top_writer.specs.Files.{Stored, data_file, index_file, mark_file, IsSizeFor, size_said, parent_said, IsParent, HeadsAsked}
 use Rattle.top_writer.specs.Fitting.{HasFront, IsData, IsIndex, IsCounted, Holds, Lasts, ViewFits}
 use Rattle.top_writer.specs.Showing.{ShowsTop, ShowsOne}
 use Rattle.top_writer.specs.View.{TopView}
@@ -21,17 +21,17 @@ use Rattle.top_writer.proofs.Fronts.{front_less}
 use Rattle.top_writer.proofs.RowCellLaws.{sheet_front}
 
 -- the head of a data file depends on its first block
-pub same_head : (n : ℕ) (parent : Option (List ℕ)) (whole file : List ℕ) → take 4096 file ≡ take 4096 whole → IsData n parent whole → IsData n parent file
+pub same_head : (n : ℕ) (asked : HeadsAsked) (whole file : List ℕ) → take 4096 file ≡ take 4096 whole → IsData n asked whole → IsData n asked file
 unfolding size_said parent_said
-same_head n parent whole file same is = record {
+same_head n asked whole file same is = record {
   head = (is.head.0, subst (λ (b : List ℕ). BlockOf b is.head.0) (sym same) is.head.1, is.head.2);
-  size = ap (λ (b : List ℕ). (raw_head b).sectors) same ∙ is.size;
-  parent_is = subst (IsParent parent) (sym (ap (λ (b : List ℕ). (raw_head b).parent) same)) is.parent_is;
+  size = subst (IsSizeFor asked.exact n) (sym (ap (λ (b : List ℕ). (raw_head b).sectors) same)) is.size;
+  parent_is = subst (IsParent asked.parent) (sym (ap (λ (b : List ℕ). (raw_head b).parent) same)) is.parent_is;
 }
 
-pub front_head : (n size : ℕ) (parent : Option (List ℕ)) (whole file : List ℕ) → 4096 ≤ size → HasFront size whole file → IsData n parent whole → IsData n parent file
-front_head n size parent whole file le front is =
-    same_head n parent whole file (front_less 4096 size whole file le front).same is
+pub front_head : (n size : ℕ) (asked : HeadsAsked) (whole file : List ℕ) → 4096 ≤ size → HasFront size whole file → IsData n asked whole → IsData n asked file
+front_head n size asked whole file le front is =
+    same_head n asked whole file (front_less 4096 size whole file le front).same is
 
 -- the body that a mark shows
 attempt_body : (rest : Rest) (sequence : ℕ) (c : List ℕ) → ShowsAttempt rest sequence c → (body : List ℕ) × (rest ≡ Attempted body) × Shows sequence body c
@@ -54,15 +54,15 @@ spelled_take file at (suc k) [] are = tt
 spelled_take file at (suc k) (row ∷ rows) are = (are.0, spelled_take file (at + 16) k rows are.1)
 
 -- a mark, rows and data of which all that it counts is synced show the top that it counts
-pub counted_shows : (n : ℕ) (parent : Option (List ℕ)) (whole : List ℕ) (rows : List Row) (synced synced_sectors sequence : ℕ) (body : List ℕ) (s : Stand) (t : Stored)
-    → IsData n parent whole → synced ≤ length rows → IsCounted n whole rows synced synced_sectors body s
-    → HasFront (4096 + 512 * synced_sectors) whole t.bytes → IsIndex n t.index (take synced rows) → Shows sequence body t.mark
-    → ShowsTop n parent s t
-counted_shows n parent whole rows synced synced_sectors sequence body s t head enough counted front index mark =
+pub counted_shows : (n : ℕ) (asked : HeadsAsked) (whole : List ℕ) (rows : List Row) (synced synced_sectors sequence : ℕ) (body : List ℕ) (s : Stand) (t : Stored)
+    → IsData n asked whole → synced ≤ length rows → IsCounted n whole rows synced synced_sectors body s
+    → HasFront (4096 + 512 * synced_sectors) whole t.bytes → IsIndex n asked t.index (take synced rows) → Shows sequence body t.mark
+    → ShowsTop n asked s t
+counted_shows n asked whole rows synced synced_sectors sequence body s t head enough counted front index mark =
     let number : length (take synced rows) ≡ synced = length-take-le synced rows enough in
     let le_rows = counted.rows_synced in
     let le_sectors = counted.sectors_synced in
-    let data_head = front_head n (4096 + 512 * synced_sectors) parent whole t.bytes (omega arith) front head in
+    let data_head = front_head n (4096 + 512 * synced_sectors) asked whole t.bytes (omega arith) front head in
     let part : HasFront (4096 + 512 * s.filled) whole t.bytes = front_less (4096 + 512 * s.filled) (4096 + 512 * synced_sectors) whole t.bytes (omega (arith, le_sectors)) front in
     let first : take s.rows (take synced rows) ≡ take s.rows rows = take-take s.rows synced rows le_rows in
     record {
@@ -81,28 +81,28 @@ counted_shows n parent whole rows synced synced_sectors sequence body s t head e
     }
 
 -- what is on the disk is among what the top has
-pub synced_rows : (n : ℕ) (parent : Option (List ℕ)) (v : TopView) (s : Stand) (file : List ℕ) (rows : List Row) → Holds n parent v s file rows → v.synced ≤ length rows
-synced_rows n parent v s file rows holds = omega (arith, holds.number, holds.waiting_size)
+pub synced_rows : (n : ℕ) (asked : HeadsAsked) (v : TopView) (s : Stand) (file : List ℕ) (rows : List Row) → Holds n asked v s file rows → v.synced ≤ length rows
+synced_rows n asked v s file rows holds = omega (arith, holds.number, holds.waiting_size)
 
-pub lasts_shown : (tells : Bool) (now : DiskState) (n : ℕ) (parent : Option (List ℕ)) (v : TopView) (s : Stand) (file : List ℕ) (rows : List Row) (may : List Stand) (t : Stored)
-    → Holds n parent v s file rows → Lasts tells now n v file rows may
+pub lasts_shown : (tells : Bool) (now : DiskState) (n : ℕ) (asked : HeadsAsked) (v : TopView) (s : Stand) (file : List ℕ) (rows : List Row) (may : List Stand) (t : Stored)
+    → Holds n asked v s file rows → Lasts tells now n asked v file rows may
     → now.may_leave (data_file v.epoch) t.bytes → now.may_leave (index_file v.epoch) t.index → now.may_leave (mark_file v.epoch) t.mark
-    → (u : Stand) × Contains may u × ShowsTop n parent u t
-lasts_shown tells now n parent v s file rows may t holds lasts bytes index mark =
+    → (u : Stand) × Contains may u × ShowsTop n asked u t
+lasts_shown tells now n asked v s file rows may t holds lasts bytes index mark =
     let fits = lasts.mark t.mark (subst (λ f. now.may_leave f t.mark) (sym lasts.mark_is) mark) in
     let held = either_body v.mark v.mark.rest t.mark (shown v.mark.current v.mark.sequence v.mark.body v.mark.rest t.mark fits) in
     let counted = lasts.bodies held.1 held.2 in (
       counted.0,
       counted.1,
-      counted_shows n parent file rows v.synced lasts.synced_sectors held.0 held.1 counted.0 t holds.head
-          (synced_rows n parent v s file rows holds) counted.2 (lasts.bytes_left t.bytes bytes) (lasts.index_left t.index index) held.3,
+      counted_shows n asked file rows v.synced lasts.synced_sectors held.0 held.1 counted.0 t holds.head
+          (synced_rows n asked v s file rows holds) counted.2 (lasts.bytes_left t.bytes bytes) (lasts.index_left t.index index) held.3,
     )
 
 -- a file set that a crash now may leave shows one of the tops
-pub fits_shown : (tells : Bool) (now : DiskState) (n : ℕ) (parent : Option (List ℕ)) (v : TopView) (s : Stand) (may : List Stand)
-    → ViewFits tells now n parent v s may → (files : Files) → Leaves now files → ShowsOne v.epoch n parent may files
-fits_shown tells now n parent v s may fits files leaves =
-    let one = lasts_shown tells now n parent v s fits.file fits.rows may
+pub fits_shown : (tells : Bool) (now : DiskState) (n : ℕ) (asked : HeadsAsked) (v : TopView) (s : Stand) (may : List Stand)
+    → ViewFits tells now n asked v s may → (files : Files) → Leaves now files → ShowsOne v.epoch n asked may files
+fits_shown tells now n asked v s may fits files leaves =
+    let one = lasts_shown tells now n asked v s fits.file fits.rows may
     (record { bytes = files (data_file v.epoch); index = files (index_file v.epoch); mark = files (mark_file v.epoch) })
     fits.holds fits.lasts (leaves (data_file v.epoch)) (leaves (index_file v.epoch)) (leaves (mark_file v.epoch)) in
     record { stand = one.0; among = one.1; shows = one.2 }

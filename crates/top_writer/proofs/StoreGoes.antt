@@ -8,7 +8,7 @@ use Rattle.seg_mapping.specs.declared.Row.{Row}
 use Rattle.flat_image.specs.Left.{Stand}
 use Rattle.flat_image.specs.RowCells.{AreSpelled}
 use Rattle.top_writer.specs.declared.top.Top.{Top}
-use Rattle.top_writer.specs.Files.{data_file, index_file}
+use Rattle.top_writer.specs.Files.{data_file, index_file, HeadsAsked}
 use Rattle.top_writer.specs.Fitting.{HasFront, IsIndex, Holds, Lasts, ViewFits, ViewStored, TopFits, TopGoes}
 use Rattle.top_writer.specs.Stands.{unchanged, as_before}
 use Rattle.top_writer.specs.View.{TopView, view_of}
@@ -17,23 +17,23 @@ use Rattle.top_writer.proofs.ShowLaws.{synced_rows}
 use Rattle.top_writer.proofs.Going.{KnowsNow, going_started, going_on, lasts_data, lasts_index, not_data_index}
 
 -- the write of the rows that wait, done or in part or torn
-pub lasts_rows : (tells : Bool) (old new : DiskState) (n : ℕ) (v : TopView) (file : List ℕ) (rows : List Row) (may : List Stand) (size : ℕ) → v.synced ≤ length rows
+pub lasts_rows : (tells : Bool) (old new : DiskState) (n : ℕ) (asked : HeadsAsked) (v : TopView) (file : List ℕ) (rows : List Row) (may : List Stand) (size : ℕ) → v.synced ≤ length rows
     → Steps (index_file v.epoch) (Torn (4096 + 16 * v.synced) size) old new
-    → Lasts tells old n v file rows may → Lasts tells new n v file rows may
-lasts_rows tells old new n v file rows may size enough steps lasts =
-    lasts_index tells old new n v file rows may (Torn (4096 + 16 * v.synced) size) steps
-    (λ d c is torn. index_torn n (4096 + 16 * v.synced) size d c (take v.synced rows) (omega (arith, length-take-le v.synced rows enough)) torn is) lasts
+    → Lasts tells old n asked v file rows may → Lasts tells new n asked v file rows may
+lasts_rows tells old new n asked v file rows may size enough steps lasts =
+    lasts_index tells old new n asked v file rows may (Torn (4096 + 16 * v.synced) size) steps
+    (λ d c is torn. index_torn n asked (4096 + 16 * v.synced) size d c (take v.synced rows) (omega (arith, length-take-le v.synced rows enough)) torn is) lasts
 
 -- a sync
-pub lasts_data_sync : (tells : Bool) (old new : DiskState) (n : ℕ) (v : TopView) (file : List ℕ) (rows : List Row) (may : List Stand)
-    → Steps (data_file v.epoch) Same old new → Lasts tells old n v file rows may → Lasts tells new n v file rows may
-lasts_data_sync tells old new n v file rows may steps lasts =
-    lasts_data tells old new n v file rows may Same steps (λ k d c le front same. subst (HasFront (4096 + 512 * k) file) (sym same) front) lasts
+pub lasts_data_sync : (tells : Bool) (old new : DiskState) (n : ℕ) (asked : HeadsAsked) (v : TopView) (file : List ℕ) (rows : List Row) (may : List Stand)
+    → Steps (data_file v.epoch) Same old new → Lasts tells old n asked v file rows may → Lasts tells new n asked v file rows may
+lasts_data_sync tells old new n asked v file rows may steps lasts =
+    lasts_data tells old new n asked v file rows may Same steps (λ k d c le front same. subst (HasFront (4096 + 512 * k) file) (sym same) front) lasts
 
-pub lasts_index_sync : (tells : Bool) (old new : DiskState) (n : ℕ) (v : TopView) (file : List ℕ) (rows : List Row) (may : List Stand)
-    → Steps (index_file v.epoch) Same old new → Lasts tells old n v file rows may → Lasts tells new n v file rows may
-lasts_index_sync tells old new n v file rows may steps lasts =
-    lasts_index tells old new n v file rows may Same steps (λ d c is same. subst (λ (x : List ℕ). IsIndex n x (take v.synced rows)) (sym same) is) lasts
+pub lasts_index_sync : (tells : Bool) (old new : DiskState) (n : ℕ) (asked : HeadsAsked) (v : TopView) (file : List ℕ) (rows : List Row) (may : List Stand)
+    → Steps (index_file v.epoch) Same old new → Lasts tells old n asked v file rows may → Lasts tells new n asked v file rows may
+lasts_index_sync tells old new n asked v file rows may steps lasts =
+    lasts_index tells old new n asked v file rows may Same steps (λ d c is same. subst (λ (x : List ℕ). IsIndex n asked x (take v.synced rows)) (sym same) is) lasts
 
 -- the three calls, each with what is known after it
 pub record Stores (tells : Bool) (first second third last : DiskState) (v : TopView) : Type 0 where
@@ -51,31 +51,31 @@ abbrev pub all_synced : TopView → TopView
 all_synced v = record v { synced = v.rows; waiting = [] }
 
 -- the rows in the index after them
-stored_index : (tells : Bool) (first second third last : DiskState) (n : ℕ) (parent : Option (List ℕ)) (v : TopView) (s : Stand) (file : List ℕ) (rows : List Row) (may : List Stand)
-    → Stores tells first second third last v → Holds n parent v s file rows → Lasts tells first n v file rows may
-    → (c : List ℕ) → last.may_leave (index_file v.epoch) c → IsIndex n c rows
-stored_index tells first second third last n parent v s file rows may stores holds lasts c left =
+stored_index : (tells : Bool) (first second third last : DiskState) (n : ℕ) (asked : HeadsAsked) (v : TopView) (s : Stand) (file : List ℕ) (rows : List Row) (may : List Stand)
+    → Stores tells first second third last v → Holds n asked v s file rows → Lasts tells first n asked v file rows may
+    → (c : List ℕ) → last.may_leave (index_file v.epoch) c → IsIndex n asked c rows
+stored_index tells first second third last n asked v s file rows may stores holds lasts c left =
     let told = stores.told (index_file v.epoch) c left in
-    let enough = synced_rows n parent v s file rows holds in
+    let enough = synced_rows n asked v s file rows holds in
     let seen : c ≡ put (first.seen (index_file v.epoch)) (4096 + 16 * v.synced) v.waiting =
     stores.index_durable c left ∙ stores.index_steps.seen ∙ stores.data_steps.others.seen (index_file v.epoch) (not_data_index v.epoch) ∙ stores.written told in
     let number : length (take v.synced rows) ≡ v.synced = length-take-le v.synced rows enough in
-    let put_now = index_put n (4096 + 16 * v.synced) (first.seen (index_file v.epoch)) v.waiting (take v.synced rows) (drop v.synced rows)
+    let put_now = index_put n asked (4096 + 16 * v.synced) (first.seen (index_file v.epoch)) v.waiting (take v.synced rows) (drop v.synced rows)
     (omega (arith, number)) (omega (arith, length-drop v.synced rows, holds.waiting_size, holds.number)) holds.waiting
     (lasts.index_left (first.seen (index_file v.epoch)) (stores.stays told)) in
-    subst (λ (x : List ℕ). IsIndex n x rows) (sym seen)
-    (subst (IsIndex n (put (first.seen (index_file v.epoch)) (4096 + 16 * v.synced) v.waiting)) (take-append-drop v.synced rows) put_now)
+    subst (λ (x : List ℕ). IsIndex n asked x rows) (sym seen)
+    (subst (IsIndex n asked (put (first.seen (index_file v.epoch)) (4096 + 16 * v.synced) v.waiting)) (take-append-drop v.synced rows) put_now)
 
-pub stored_fits : (tells : Bool) (first second third last : DiskState) (n : ℕ) (parent : Option (List ℕ)) (v : TopView) (s : Stand) (may : List Stand)
-    → Stores tells first second third last v → ViewFits tells first n parent v s may → ViewStored tells last n parent (all_synced v) s may
-stored_fits tells first second third last n parent v s may stores fits =
+pub stored_fits : (tells : Bool) (first second third last : DiskState) (n : ℕ) (asked : HeadsAsked) (v : TopView) (s : Stand) (may : List Stand)
+    → Stores tells first second third last v → ViewFits tells first n asked v s may → ViewStored tells last n asked (all_synced v) s may
+stored_fits tells first second third last n asked v s may stores fits =
     let file = fits.file in
     let rows = fits.rows in
     let holds = fits.holds in
-    let enough = synced_rows n parent v s file rows holds in
-    let at_second = lasts_rows tells first second n v file rows may (length v.waiting) enough stores.rows_steps fits.lasts in
-    let at_third = lasts_data_sync tells second third n v file rows may stores.data_steps at_second in
-    let at_last = lasts_index_sync tells third last n v file rows may stores.index_steps at_third in
+    let enough = synced_rows n asked v s file rows holds in
+    let at_second = lasts_rows tells first second n asked v file rows may (length v.waiting) enough stores.rows_steps fits.lasts in
+    let at_third = lasts_data_sync tells second third n asked v file rows may stores.data_steps at_second in
+    let at_last = lasts_index_sync tells third last n asked v file rows may stores.index_steps at_third in
     let all_rows : take v.rows rows ≡ rows = take_all v.rows rows (omega (arith, holds.number)) in
     let apart : data_file v.epoch ≡ index_file v.epoch → ⊥ = λ e. omega (arith, e) in
     record {
@@ -104,7 +104,7 @@ stored_fits tells first second third last n parent v s may stores fits =
         bytes_left = λ c left.
             let before = stores.index_steps.others.left (data_file v.epoch) c apart left in
             subst (HasFront (4096 + 512 * v.filled) file) (sym (stores.data_durable c before)) (at_third.seen (stores.told (data_file v.epoch) c left));
-        index_left = λ c left. subst (IsIndex n c) (sym all_rows) (stored_index tells first second third last n parent v s file rows may stores holds fits.lasts c left);
+        index_left = λ c left. subst (IsIndex n asked c) (sym all_rows) (stored_index tells first second third last n asked v s file rows may stores holds fits.lasts c left);
         seen = at_last.seen;
         bodies = λ body may_hold. let old = at_last.bodies body may_hold in
             let counted = old.2 in (
@@ -124,35 +124,35 @@ stored_fits tells first second third last n parent v s may stores fits =
     }
 
 -- a top of which all is stored fits
-pub fits_stored : (tells : Bool) (now : DiskState) (n : ℕ) (parent : Option (List ℕ)) (v : TopView) (s : Stand) (may : List Stand)
-    → ViewStored tells now n parent v s may → ViewFits tells now n parent v s may
-fits_stored tells now n parent v s may stored = record { file = stored.file; rows = stored.rows; holds = stored.holds; lasts = stored.lasts }
+pub fits_stored : (tells : Bool) (now : DiskState) (n : ℕ) (asked : HeadsAsked) (v : TopView) (s : Stand) (may : List Stand)
+    → ViewStored tells now n asked v s may → ViewFits tells now n asked v s may
+fits_stored tells now n asked v s may stored = record { file = stored.file; rows = stored.rows; holds = stored.holds; lasts = stored.lasts }
 
-rows_fits : (tells : Bool) (old new : DiskState) (n : ℕ) (parent : Option (List ℕ)) (v : TopView) (s : Stand) (may : List Stand) (size : ℕ)
-    → Steps (index_file v.epoch) (Torn (4096 + 16 * v.synced) size) old new → ViewFits tells old n parent v s may → ViewFits tells new n parent v s may
-rows_fits tells old new n parent v s may size steps fits = record {
+rows_fits : (tells : Bool) (old new : DiskState) (n : ℕ) (asked : HeadsAsked) (v : TopView) (s : Stand) (may : List Stand) (size : ℕ)
+    → Steps (index_file v.epoch) (Torn (4096 + 16 * v.synced) size) old new → ViewFits tells old n asked v s may → ViewFits tells new n asked v s may
+rows_fits tells old new n asked v s may size steps fits = record {
   file = fits.file;
   rows = fits.rows;
   holds = fits.holds;
-  lasts = lasts_rows tells old new n v fits.file fits.rows may size (synced_rows n parent v s fits.file fits.rows fits.holds) steps fits.lasts;
+  lasts = lasts_rows tells old new n asked v fits.file fits.rows may size (synced_rows n asked v s fits.file fits.rows fits.holds) steps fits.lasts;
 }
 
-data_sync_fits : (tells : Bool) (old new : DiskState) (n : ℕ) (parent : Option (List ℕ)) (v : TopView) (s : Stand) (may : List Stand)
-    → Steps (data_file v.epoch) Same old new → ViewFits tells old n parent v s may → ViewFits tells new n parent v s may
-data_sync_fits tells old new n parent v s may steps fits = record {
+data_sync_fits : (tells : Bool) (old new : DiskState) (n : ℕ) (asked : HeadsAsked) (v : TopView) (s : Stand) (may : List Stand)
+    → Steps (data_file v.epoch) Same old new → ViewFits tells old n asked v s may → ViewFits tells new n asked v s may
+data_sync_fits tells old new n asked v s may steps fits = record {
   file = fits.file;
   rows = fits.rows;
   holds = fits.holds;
-  lasts = lasts_data_sync tells old new n v fits.file fits.rows may steps fits.lasts;
+  lasts = lasts_data_sync tells old new n asked v fits.file fits.rows may steps fits.lasts;
 }
 
-index_sync_fits : (tells : Bool) (old new : DiskState) (n : ℕ) (parent : Option (List ℕ)) (v : TopView) (s : Stand) (may : List Stand)
-    → Steps (index_file v.epoch) Same old new → ViewFits tells old n parent v s may → ViewFits tells new n parent v s may
-index_sync_fits tells old new n parent v s may steps fits = record {
+index_sync_fits : (tells : Bool) (old new : DiskState) (n : ℕ) (asked : HeadsAsked) (v : TopView) (s : Stand) (may : List Stand)
+    → Steps (index_file v.epoch) Same old new → ViewFits tells old n asked v s may → ViewFits tells new n asked v s may
+index_sync_fits tells old new n asked v s may steps fits = record {
   file = fits.file;
   rows = fits.rows;
   holds = fits.holds;
-  lasts = lasts_index_sync tells old new n v fits.file fits.rows may steps fits.lasts;
+  lasts = lasts_index_sync tells old new n asked v fits.file fits.rows may steps fits.lasts;
 }
 
 -- as far as the write of the rows
@@ -162,10 +162,10 @@ goes_rows tells old new p size now_at steps = record {
   epoch = refl;
   sectors = refl;
   sequence = omega arith;
-  fits = λ n parent s may fits. rows_fits tells old new n parent (view_of p) s may size steps fits;
-  any_moment = λ n parent s may fits.
-      going_on tells old old new n parent (view_of p) s may (index_file p.epoch) (Torn (4096 + 16 * p.synced) size)
-      (going_started tells old n parent (view_of p) s may now_at fits) (inr (inl refl)) steps (rows_fits tells old new n parent (view_of p) s may size steps fits);
+  fits = λ n asked s may fits. rows_fits tells old new n asked (view_of p) s may size steps fits;
+  any_moment = λ n asked s may fits.
+      going_on tells old old new n asked (view_of p) s may (index_file p.epoch) (Torn (4096 + 16 * p.synced) size)
+      (going_started tells old n asked (view_of p) s may now_at fits) (inr (inl refl)) steps (rows_fits tells old new n asked (view_of p) s may size steps fits);
 }
 
 -- a sync of the data after it
@@ -175,10 +175,10 @@ goes_data_sync tells old mid new p goes steps = record {
   epoch = refl;
   sectors = refl;
   sequence = omega arith;
-  fits = λ n parent s may fits. data_sync_fits tells mid new n parent (view_of p) s may steps (goes.fits n parent s may fits);
-  any_moment = λ n parent s may fits.
-      going_on tells old mid new n parent (view_of p) s may (data_file p.epoch) Same (goes.any_moment n parent s may fits) (inl refl) steps
-      (data_sync_fits tells mid new n parent (view_of p) s may steps (goes.fits n parent s may fits));
+  fits = λ n asked s may fits. data_sync_fits tells mid new n asked (view_of p) s may steps (goes.fits n asked s may fits);
+  any_moment = λ n asked s may fits.
+      going_on tells old mid new n asked (view_of p) s may (data_file p.epoch) Same (goes.any_moment n asked s may fits) (inl refl) steps
+      (data_sync_fits tells mid new n asked (view_of p) s may steps (goes.fits n asked s may fits));
 }
 
 -- and of the rows
@@ -188,10 +188,10 @@ goes_index_sync tells old mid new p goes steps = record {
   epoch = refl;
   sectors = refl;
   sequence = omega arith;
-  fits = λ n parent s may fits. index_sync_fits tells mid new n parent (view_of p) s may steps (goes.fits n parent s may fits);
-  any_moment = λ n parent s may fits.
-      going_on tells old mid new n parent (view_of p) s may (index_file p.epoch) Same (goes.any_moment n parent s may fits) (inr (inl refl)) steps
-      (index_sync_fits tells mid new n parent (view_of p) s may steps (goes.fits n parent s may fits));
+  fits = λ n asked s may fits. index_sync_fits tells mid new n asked (view_of p) s may steps (goes.fits n asked s may fits);
+  any_moment = λ n asked s may fits.
+      going_on tells old mid new n asked (view_of p) s may (index_file p.epoch) Same (goes.any_moment n asked s may fits) (inr (inl refl)) steps
+      (index_sync_fits tells mid new n asked (view_of p) s may steps (goes.fits n asked s may fits));
 }
 
 -- all of it
@@ -201,12 +201,12 @@ goes_stored tells first second third last p q same stores goes = record {
   epoch = ap (λ (v : TopView). v.epoch) same;
   sectors = ap (λ (v : TopView). v.sectors) same;
   sequence = omega (arith, ap (λ (v : TopView). sequence_in v.mark) same);
-  fits = λ n parent s may fits. subst (λ (v : TopView). ViewFits tells last n parent v s may) (sym same)
-      (fits_stored tells last n parent (all_synced (view_of p)) s may (stored_fits tells first second third last n parent (view_of p) s may stores fits));
+  fits = λ n asked s may fits. subst (λ (v : TopView). ViewFits tells last n asked v s may) (sym same)
+      (fits_stored tells last n asked (all_synced (view_of p)) s may (stored_fits tells first second third last n asked (view_of p) s may stores fits));
   any_moment = goes.any_moment;
 }
 
 pub all_stored : (tells : Bool) (first second third last : DiskState) (p q : Top) → view_of q ≡ all_synced (view_of p) → Stores tells first second third last (view_of p)
-    → (n : ℕ) (parent : Option (List ℕ)) (s : Stand) (may : List Stand) → TopFits tells first n parent p s may → ViewStored tells last n parent (view_of q) s may
-all_stored tells first second third last p q same stores n parent s may fits =
-    subst (λ (v : TopView). ViewStored tells last n parent v s may) (sym same) (stored_fits tells first second third last n parent (view_of p) s may stores fits)
+    → (n : ℕ) (asked : HeadsAsked) (s : Stand) (may : List Stand) → TopFits tells first n asked p s may → ViewStored tells last n asked (view_of q) s may
+all_stored tells first second third last p q same stores n asked s may fits =
+    subst (λ (v : TopView). ViewStored tells last n asked v s may) (sym same) (stored_fits tells first second third last n asked (view_of p) s may stores fits)

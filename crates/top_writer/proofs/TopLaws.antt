@@ -8,7 +8,7 @@ use Rattle.flat_image.specs.History.{HasRoom}
 use Rattle.flat_image.specs.RowCells.{cell_of}
 use Rattle.flat_image.specs.Left.{Stand}
 use Rattle.top_writer.specs.declared.top.Top.{Top}
-use Rattle.top_writer.specs.Files.{data_file}
+use Rattle.top_writer.specs.Files.{data_file, HeadsAsked}
 use Rattle.top_writer.specs.Fitting.{HasFront, TopFits}
 use Rattle.top_writer.specs.View.{epoch_of, sectors_of, rows_used, sectors_used, table_of, cell_at}
 use Rattle.top_writer.proofs.ReadSheet.{map_same}
@@ -21,8 +21,8 @@ pub record IsUsed (n : ℕ) (top : Top) (s : Stand) : Type 0 where
   pub filled : s.filled ≡ sectors_used top
   pub room : HasRoom (rows_used top) (sectors_used top)
 
-pub top_used : (tells : Bool) (now : DiskState) (n : ℕ) (parent : Option (List ℕ)) (top : Top) (s : Stand) (may : List Stand) → TopFits tells now n parent top s may → IsUsed n top s
-top_used tells now n parent top s may fits = record {
+pub top_used : (tells : Bool) (now : DiskState) (n : ℕ) (asked : HeadsAsked) (top : Top) (s : Stand) (may : List Stand) → TopFits tells now n asked top s may → IsUsed n top s
+top_used tells now n asked top s may fits = record {
   epoch = fits.holds.epoch;
   sectors = fits.holds.sectors;
   rows = fits.holds.rows_are;
@@ -40,8 +40,8 @@ pub record IsTabled (tells : Bool) (now : DiskState) (n : ℕ) (top : Top) (s : 
   pub from : (i place : ℕ) → cells_of (table_of top) i ≡ Some (what.Place place) → 8 ≤ place
   pub to : (i place : ℕ) → cells_of (table_of top) i ≡ Some (what.Place place) → place < 8 + sectors_used top
 
-pub top_table : (tells : Bool) (now : DiskState) (n : ℕ) (parent : Option (List ℕ)) (top : Top) (s : Stand) (may : List Stand) → TopFits tells now n parent top s may → IsTabled tells now n top s
-top_table tells now n parent top s may fits = record {
+pub top_table : (tells : Bool) (now : DiskState) (n : ℕ) (asked : HeadsAsked) (top : Top) (s : Stand) (may : List Stand) → TopFits tells now n asked top s may → IsTabled tells now n top s
+top_table tells now n asked top s may fits = record {
   file = fits.file;
   cells = fits.holds.cells ∙ sym (map_same (λ i. cell_at fits.file (cells_of (table_of top) i)) (cell_of fits.file (reverse fits.rows)) 0 n (λ i low high. fits.holds.table.same i (omega (arith, high))));
   seen = fits.lasts.seen;

@@ -15,7 +15,7 @@ use Rattle.flat_image.specs.History.{HasRoom}
 use Rattle.flat_image.specs.Left.{Stand}
 use Rattle.top_writer.specs.declared.top.Top.{Top}
 use Rattle.top_writer.specs.Changes.{Notes, IsZeroed}
-use Rattle.top_writer.specs.Files.{data_file, TopFiles}
+use Rattle.top_writer.specs.Files.{data_file, TopFiles, HeadsAsked}
 use Rattle.top_writer.specs.Fitting.{HasFront, ViewFits, TopFits, IsFitted, TopGoes}
 use Rattle.top_writer.specs.Rows.{rows_of}
 use Rattle.top_writer.specs.Showing.{ShowsOne}
@@ -31,32 +31,32 @@ use Rattle.top_writer.proofs.Going.{KnowsNow, going_started, going_on, lasts_app
 pub goes_failed : (tells : Bool) (old new : DiskState) (p q : Top) (size : ℕ) → view_of q ≡ view_of p → KnowsNow old
     → Steps (data_file p.epoch) (Torn (4096 + 512 * p.filled) size) old new → TopGoes tells old new p q unchanged as_before
 goes_failed tells old new p q size same now_at steps =
-    let still : (n : ℕ) (parent : Option (List ℕ)) (s : Stand) (may : List Stand) → TopFits tells old n parent p s may → TopFits tells new n parent p s may =
-    λ n parent s may fits. record {
+    let still : (n : ℕ) (asked : HeadsAsked) (s : Stand) (may : List Stand) → TopFits tells old n asked p s may → TopFits tells new n asked p s may =
+    λ n asked s may fits. record {
       file = fits.file;
       rows = fits.rows;
       holds = fits.holds;
-      lasts = lasts_appended tells old new n (view_of p) fits.file fits.rows may size steps fits.lasts;
+      lasts = lasts_appended tells old new n asked (view_of p) fits.file fits.rows may size steps fits.lasts;
     } in
     record {
       epoch = ap (λ (v : TopView). v.epoch) same;
       sectors = ap (λ (v : TopView). v.sectors) same;
       sequence = omega (arith, ap (λ (v : TopView). sequence_in v.mark) same);
-      fits = λ n parent s may fits. subst (λ (v : TopView). ViewFits tells new n parent v s may) (sym same) (still n parent s may fits);
-      any_moment = λ n parent s may fits.
-          going_on tells old old new n parent (view_of p) s may (data_file p.epoch) (Torn (4096 + 512 * p.filled) size)
-          (going_started tells old n parent (view_of p) s may now_at fits) (inl refl) steps (still n parent s may fits);
+      fits = λ n asked s may fits. subst (λ (v : TopView). ViewFits tells new n asked v s may) (sym same) (still n asked s may fits);
+      any_moment = λ n asked s may fits.
+          going_on tells old old new n asked (view_of p) s may (data_file p.epoch) (Torn (4096 + 512 * p.filled) size)
+          (going_started tells old n asked (view_of p) s may now_at fits) (inl refl) steps (still n asked s may fits);
     }
 
-written_fits : (tells : Bool) (old new : DiskState) (p : Top) (noted : TopView) (extent : Extent) (bytes : List ℕ) (n : ℕ) (parent : Option (List ℕ)) (s : Stand) (may : List Stand)
+written_fits : (tells : Bool) (old new : DiskState) (p : Top) (noted : TopView) (extent : Extent) (bytes : List ℕ) (n : ℕ) (asked : HeadsAsked) (s : Stand) (may : List Stand)
     → length bytes ≡ 512 * extent.count → extent.at + extent.count ≤ p.sectors
     → Notes (view_of p) extent (what.Place (8 + p.filled)) noted
     → HasRoom (p.rows + rows_for extent.count) (p.filled + extent.count)
     → Steps (data_file p.epoch) (Torn (4096 + 512 * p.filled) (length bytes)) old new
     → (IsTrue tells → new.seen (data_file p.epoch) ≡ put (old.seen (data_file p.epoch)) (4096 + 512 * p.filled) bytes)
-    → TopFits tells old n parent p s may
-    → ViewFits tells new n parent (record noted { filled = p.filled + extent.count }) (with_write extent.at bytes s) may
-written_fits tells old new p noted extent bytes n parent s may size within notes room steps written fits =
+    → TopFits tells old n asked p s may
+    → ViewFits tells new n asked (record noted { filled = p.filled + extent.count }) (with_write extent.at bytes s) may
+written_fits tells old new p noted extent bytes n asked s may size within notes room steps written fits =
     let v : TopView = view_of p in
     let file : List ℕ = fits.file ++ bytes in
     let holds = fits.holds in
@@ -71,14 +71,14 @@ written_fits tells old new p noted extent bytes n parent s may size within notes
     record {
       file = file;
       rows = fits.rows ++ rows_of extent.at extent.count (what.Place (8 + p.filled));
-      holds = noted_holds n parent v noted extent (what.Place (8 + p.filled)) (p.filled + extent.count) s (with_write extent.at bytes s) fits.file file fits.rows
+      holds = noted_holds n asked v noted extent (what.Place (8 + p.filled)) (p.filled + extent.count) s (with_write extent.at bytes s) fits.file file fits.rows
           holds notes (omega arith) front long in_image (omega arith, omega arith) room
           (ap (λ (k : ℕ). s.rows + rows_for k) count) (omega (arith, holds.filled_are, count))
           (ap (put_at extent.at (map Filled (sectors_in bytes))) holds.cells
           ∙ written_sheet n p.filled extent.at extent.count fits.rows fits.file bytes size holds.long in_image holds.sound);
-      lasts = lasts_more tells new n v (record noted { filled = p.filled + extent.count }) fits.file file fits.rows (rows_of extent.at extent.count (what.Place (8 + p.filled))) may
-          notes.epoch notes.mark notes.synced (omega arith) front (synced_rows n parent v s fits.file fits.rows holds) seen
-          (lasts_appended tells old new n v fits.file fits.rows may (length bytes) steps fits.lasts);
+      lasts = lasts_more tells new n asked v (record noted { filled = p.filled + extent.count }) fits.file file fits.rows (rows_of extent.at extent.count (what.Place (8 + p.filled))) may
+          notes.epoch notes.mark notes.synced (omega arith) front (synced_rows n asked v s fits.file fits.rows holds) seen
+          (lasts_appended tells old new n asked v fits.file fits.rows may (length bytes) steps fits.lasts);
     }
 
 -- a write that was done
@@ -95,12 +95,12 @@ goes_written tells old new p q noted extent bytes size within notes same room st
   epoch = ap (λ (v : TopView). v.epoch) same ∙ notes.epoch;
   sectors = ap (λ (v : TopView). v.sectors) same ∙ notes.sectors;
   sequence = omega (arith, ap (λ (v : TopView). sequence_in v.mark) same, ap sequence_in notes.mark);
-  fits = λ n parent s may fits. subst (λ (v : TopView). ViewFits tells new n parent v (with_write extent.at bytes s) may) (sym same)
-      (written_fits tells old new p noted extent bytes n parent s may size within notes room steps written fits);
-  any_moment = λ n parent s may fits.
-      going_on tells old old new n parent (view_of p) s may (data_file p.epoch) (Torn (4096 + 512 * p.filled) (length bytes))
-      (going_started tells old n parent (view_of p) s may now_at fits) (inl refl) steps
-      (record { file = fits.file; rows = fits.rows; holds = fits.holds; lasts = lasts_appended tells old new n (view_of p) fits.file fits.rows may (length bytes) steps fits.lasts });
+  fits = λ n asked s may fits. subst (λ (v : TopView). ViewFits tells new n asked v (with_write extent.at bytes s) may) (sym same)
+      (written_fits tells old new p noted extent bytes n asked s may size within notes room steps written fits);
+  any_moment = λ n asked s may fits.
+      going_on tells old old new n asked (view_of p) s may (data_file p.epoch) (Torn (4096 + 512 * p.filled) (length bytes))
+      (going_started tells old n asked (view_of p) s may now_at fits) (inl refl) steps
+      (record { file = fits.file; rows = fits.rows; holds = fits.holds; lasts = lasts_appended tells old new n asked (view_of p) fits.file fits.rows may (length bytes) steps fits.lasts });
 }
 
 -- a write of no sectors
@@ -125,15 +125,15 @@ goes_nothing tells now p q at bytes none goes = record {
   epoch = goes.epoch;
   sectors = goes.sectors;
   sequence = goes.sequence;
-  fits = λ n parent s may fits. subst (λ (t : Stand). TopFits tells now n parent q t may) (sym (nothing_written at bytes s none)) (goes.fits n parent s may fits);
+  fits = λ n asked s may fits. subst (λ (t : Stand). TopFits tells now n asked q t may) (sym (nothing_written at bytes s none)) (goes.fits n asked s may fits);
   any_moment = goes.any_moment;
 }
 
 -- a zero
-pub fits_zeroed : (tells : Bool) (now : DiskState) (n : ℕ) (parent : Option (List ℕ)) (p q : Top) (extent : Extent) (s : Stand) (may : List Stand)
+pub fits_zeroed : (tells : Bool) (now : DiskState) (n : ℕ) (asked : HeadsAsked) (p q : Top) (extent : Extent) (s : Stand) (may : List Stand)
     → extent.at + extent.count ≤ p.sectors → IsZeroed (view_of p) extent (view_of q)
-    → TopFits tells now n parent p s may → TopFits tells now n parent q (with_zero extent.at extent.count s) may
-fits_zeroed tells now n parent p q extent s may within zeroed fits =
+    → TopFits tells now n asked p s may → TopFits tells now n asked q (with_zero extent.at extent.count s) may
+fits_zeroed tells now n asked p q extent s may within zeroed fits =
     let v : TopView = view_of p in
     let holds = fits.holds in
     let notes = zeroed.notes in
@@ -143,13 +143,13 @@ fits_zeroed tells now n parent p q extent s may within zeroed fits =
     record {
       file = fits.file;
       rows = fits.rows ++ rows_of extent.at extent.count what.Zero;
-      holds = noted_holds n parent v (view_of q) extent what.Zero q.filled s (with_zero extent.at extent.count s) fits.file fits.file fits.rows
+      holds = noted_holds n asked v (view_of q) extent what.Zero q.filled s (with_zero extent.at extent.count s) fits.file fits.file fits.rows
           holds notes (omega (arith, notes.filled)) (subst (λ (k : ℕ). HasFront (4096 + 512 * k) fits.file fits.file) notes.filled front) (omega (arith, holds.long, notes.filled)) in_image tt room
           refl (omega (arith, holds.filled_are, notes.filled))
           (ap (put_at extent.at (replicate extent.count Zero)) holds.cells ∙ zeroed_sheet n extent.at extent.count fits.rows fits.file in_image);
-      lasts = lasts_more tells now n v (view_of q) fits.file fits.file fits.rows (rows_of extent.at extent.count what.Zero) may
+      lasts = lasts_more tells now n asked v (view_of q) fits.file fits.file fits.rows (rows_of extent.at extent.count what.Zero) may
           notes.epoch notes.mark notes.synced (omega (arith, notes.filled)) (subst (λ (k : ℕ). HasFront (4096 + 512 * k) fits.file fits.file) notes.filled front)
-          (synced_rows n parent v s fits.file fits.rows holds)
+          (synced_rows n asked v s fits.file fits.rows holds)
           (λ told. subst (λ (k : ℕ). HasFront (4096 + 512 * k) fits.file (now.seen (data_file p.epoch))) (sym notes.filled) (fits.lasts.seen told))
           fits.lasts;
     }
@@ -160,8 +160,8 @@ zero_goes tells now p q extent within zeroed now_at = record {
   epoch = zeroed.notes.epoch;
   sectors = zeroed.notes.sectors;
   sequence = omega (arith, ap sequence_in zeroed.notes.mark);
-  fits = λ n parent s may fits. fits_zeroed tells now n parent p q extent s may within zeroed fits;
-  any_moment = λ n parent s may fits. going_started tells now n parent (view_of p) s may now_at fits;
+  fits = λ n asked s may fits. fits_zeroed tells now n asked p q extent s may within zeroed fits;
+  any_moment = λ n asked s may fits. going_started tells now n asked (view_of p) s may now_at fits;
 }
 
 -- what goes on from a top with the same fields
@@ -169,15 +169,15 @@ pub goes_from : (tells : Bool) (old new : DiskState) (p mid q : Top) (becomes : 
     → TopGoes tells old new mid q becomes leaves → TopGoes tells old new p q becomes leaves
 goes_from tells old new p mid q becomes leaves same goes =
     let epoch : mid.epoch ≡ p.epoch = ap (λ (v : TopView). v.epoch) same in
-    let back : (n : ℕ) (parent : Option (List ℕ)) (s : Stand) (may : List Stand) → TopFits tells old n parent p s may → TopFits tells old n parent mid s may =
-    λ n parent s may fits. subst (λ (v : TopView). ViewFits tells old n parent v s may) (sym same) fits in
+    let back : (n : ℕ) (asked : HeadsAsked) (s : Stand) (may : List Stand) → TopFits tells old n asked p s may → TopFits tells old n asked mid s may =
+    λ n asked s may fits. subst (λ (v : TopView). ViewFits tells old n asked v s may) (sym same) fits in
     record {
       epoch = goes.epoch ∙ epoch;
       sectors = goes.sectors ∙ ap (λ (v : TopView). v.sectors) same;
       sequence = omega (arith, goes.sequence, ap (λ (v : TopView). sequence_in v.mark) same);
-      fits = λ n parent s may fits. goes.fits n parent s may (back n parent s may fits);
-      any_moment = λ n parent s may fits. subst (λ (e : ℕ). Run (TopFiles e) old new (ShowsOne e n parent (s ∷ may))) epoch
-          (goes.any_moment n parent s may (back n parent s may fits));
+      fits = λ n asked s may fits. goes.fits n asked s may (back n asked s may fits);
+      any_moment = λ n asked s may fits. subst (λ (e : ℕ). Run (TopFiles e) old new (ShowsOne e n asked (s ∷ may))) epoch
+          (goes.any_moment n asked s may (back n asked s may fits));
     }
 
 pub no_bytes : (bytes : List ℕ) (count : ℕ) → length bytes ≡ 512 * count → count ≡ 0 → bytes ≡ []
@@ -189,36 +189,36 @@ pub fitted_goes : (tells : Bool) (old new : DiskState) (p q : Top) (becomes : St
     → IsFitted tells old p → TopGoes tells old new p q becomes leaves → IsFitted tells new q
 fitted_goes tells old new p q becomes leaves fitted goes = record {
   n = fitted.n;
-  parent = fitted.parent;
+  asked = fitted.asked;
   stand = becomes fitted.stand;
   may = leaves fitted.stand fitted.may;
-  fits = goes.fits fitted.n fitted.parent fitted.stand fitted.may fitted.fits;
+  fits = goes.fits fitted.n fitted.asked fitted.stand fitted.may fitted.fits;
 }
 
 pub fitted_quiet : (tells : Bool) (old new : DiskState) (p : Top) → Quiet old new → IsFitted tells old p → IsFitted tells new p
 fitted_quiet tells old new p quiet fitted = record {
   n = fitted.n;
-  parent = fitted.parent;
+  asked = fitted.asked;
   stand = fitted.stand;
   may = fitted.may;
-  fits = fits_quiet tells old new fitted.n fitted.parent p fitted.stand fitted.may quiet fitted.fits;
+  fits = fits_quiet tells old new fitted.n fitted.asked p fitted.stand fitted.may quiet fitted.fits;
 }
 
 pub fitted_same : (tells : Bool) (now : DiskState) (p q : Top) → view_of q ≡ view_of p → IsFitted tells now p → IsFitted tells now q
 fitted_same tells now p q same fitted = record {
   n = fitted.n;
-  parent = fitted.parent;
+  asked = fitted.asked;
   stand = fitted.stand;
   may = fitted.may;
-  fits = subst (λ (v : TopView). ViewFits tells now fitted.n fitted.parent v fitted.stand fitted.may) (sym same) fitted.fits;
+  fits = subst (λ (v : TopView). ViewFits tells now fitted.n fitted.asked v fitted.stand fitted.may) (sym same) fitted.fits;
 }
 
 pub fitted_zeroed : (tells : Bool) (now : DiskState) (p q : Top) (extent : Extent) → extent.at + extent.count ≤ p.sectors → IsZeroed (view_of p) extent (view_of q)
     → IsFitted tells now p → IsFitted tells now q
 fitted_zeroed tells now p q extent within zeroed fitted = record {
   n = fitted.n;
-  parent = fitted.parent;
+  asked = fitted.asked;
   stand = with_zero extent.at extent.count fitted.stand;
   may = fitted.may;
-  fits = fits_zeroed tells now fitted.n fitted.parent p q extent fitted.stand fitted.may within zeroed fitted.fits;
+  fits = fits_zeroed tells now fitted.n fitted.asked p q extent fitted.stand fitted.may within zeroed fitted.fits;
 }

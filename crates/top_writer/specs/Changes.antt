@@ -24,6 +24,10 @@ pub record Notes (v : TopView) (extent : Extent) (w : What) (new : TopView) : Ty
   pub spelled : AreSpelled added 0 (rows_of extent.at extent.count w)
   pub size : length added ≡ 16 * rows_for extent.count
 
+-- the top in memory of an image that got so many sectors, and nothing else is changed
+abbrev pub IsGrown : TopView → ℕ → TopView → Type 0
+IsGrown v sectors new = new ≡ record v { sectors = sectors }
+
 -- the top in memory after a zero of the extent
 pub record IsZeroed (v : TopView) (extent : Extent) (new : TopView) : Type 0 where
   pub notes : Notes v extent what.Zero new

@@ -1,5 +1,5 @@
 -- The three files of a top: its data, its rows and its mark.
-use Rattle.std.specs.Prelude.{◌≡◌, ℕ, ◌+◌, ◌*◌, ◌⊎◌, List, [], take, drop, Option, Some, None}
+use Rattle.std.specs.Prelude.{◌≡◌, ℕ, ◌+◌, ◌*◌, ◌⊎◌, ◌≤◌, Bool, IsTrue, List, [], take, drop, Option, Some, None}
 use Rattle.std.specs.Int.{w64, from_le_bytes}
 use Rattle.block_disk.specs.DiskState.{Files}
 use Rattle.lsmt_header.specs.declared.head.Head.{Head}
@@ -47,14 +47,28 @@ size_said file = (raw_head (take 4096 file)).sectors
 unfoldable pub parent_said : List ℕ → List ℕ
 parent_said file = (raw_head (take 4096 file)).parent
 
--- the sectors that the head of a top's file says are those of the image
-abbrev pub HasSectors : ℕ → List ℕ → Type 0
-HasSectors n file = size_said file ≡ n
+-- so many sectors, as a head says them, are no more than the n of the image; where they have to be exact, just those
+pub record IsSizeFor (exact : Bool) (n size : ℕ) : Type 0 where
+  pub within : size ≤ n
+  pub same : IsTrue exact → size ≡ n
+
+-- the head of a top's file says such a size
+abbrev pub HasSectors : Bool → ℕ → List ℕ → Type 0
+HasSectors exact n file = IsSizeFor exact n (size_said file)
 
 -- it is the parent that is asked for, where one is asked for
 abbrev pub IsParent : Option (List ℕ) → List ℕ → Type 0
 IsParent None parent = Unit {0}
 IsParent (Some asked) parent = parent ≡ asked
+
+-- what is asked of the heads of a top's files: whether their sectors have to be just those of the image, and the parent,
+-- where one is asked for
+pub record HeadsAsked : Type 0 where
+  pub exact : Bool
+  pub parent : Option (List ℕ)
+
+abbrev pub asked_of : Bool → Option (List ℕ) → HeadsAsked
+asked_of exact parent = record { exact = exact; parent = parent }
 
 -- what the head of a top's file says when it is made
 abbrev pub new_head : Kind → ℕ → List ℕ → Head

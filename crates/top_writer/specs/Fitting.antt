@@ -12,7 +12,7 @@ use Rattle.flat_image.specs.History.{HasRoom}
 use Rattle.flat_image.specs.Left.{Stand}
 use Rattle.flat_image.specs.RowCells.{AreSpelled, cell_of}
 use Rattle.top_writer.specs.declared.top.Top.{Top}
-use Rattle.top_writer.specs.Files.{data_file, index_file, mark_file, TopFiles, HasBlock, HasSectors, parent_said, IsParent, rows_said, sectors_said}
+use Rattle.top_writer.specs.Files.{data_file, index_file, mark_file, TopFiles, HeadsAsked, HasBlock, HasSectors, parent_said, IsParent, rows_said, sectors_said}
 use Rattle.top_writer.specs.Rows.{IsTopRow, top_sheet}
 use Rattle.top_writer.specs.Showing.{Counts, ShowsOne}
 use Rattle.top_writer.specs.Stands.{this_too}
@@ -32,23 +32,23 @@ pub record IsTableOf (n filled : ℕ) (file : List ℕ) (rows : List Row) (segme
   pub to : (i place : ℕ) → cell_in segments i ≡ Some (what.Place place) → place < 8 + filled
 
 -- the head of a data file, of an index file
-pub record IsData (n : ℕ) (parent : Option (List ℕ)) (file : List ℕ) : Type 0 where
+pub record IsData (n : ℕ) (asked : HeadsAsked) (file : List ℕ) : Type 0 where
   pub head : HasBlock TopBytes file
-  pub size : HasSectors n file
-  pub parent_is : IsParent parent (parent_said file)
+  pub size : HasSectors asked.exact n file
+  pub parent_is : IsParent asked.parent (parent_said file)
 
-pub record IsIndex (n : ℕ) (file : List ℕ) (rows : List Row) : Type 0 where
+pub record IsIndex (n : ℕ) (asked : HeadsAsked) (file : List ℕ) (rows : List Row) : Type 0 where
   pub head : HasBlock TopRows file
-  pub size : HasSectors n file
+  pub size : HasSectors asked.exact n file
   pub long : 4096 + 16 * length rows ≤ length file
   pub spelled : AreSpelled file 4096 rows
 
 -- All that was ever written for a top: its data file up to the last sector, and its rows, those included that are not on
 -- the disk yet. It is what the top has in memory, and what it is from above.
-pub record Holds (n : ℕ) (parent : Option (List ℕ)) (v : TopView) (s : Stand) (file : List ℕ) (rows : List Row) : Type 0 where
+pub record Holds (n : ℕ) (asked : HeadsAsked) (v : TopView) (s : Stand) (file : List ℕ) (rows : List Row) : Type 0 where
   pub epoch : v.epoch ≤ 255
   pub sectors : v.sectors ≡ n
-  pub head : IsData n parent file
+  pub head : IsData n asked file
   pub long : length file ≡ 4096 + 512 * v.filled
   pub number : length rows ≡ v.rows
   pub sound : All (IsTopRow n v.filled) rows
@@ -70,42 +70,42 @@ pub record IsCounted (n : ℕ) (file : List ℕ) (rows : List Row) (synced synce
 
 -- What a crash now may leave of the three files: the synced sectors and rows, and a mark that counts no more than these,
 -- and so shows one of those tops. What a read gives of the data file is all that was written.
-pub record Lasts (tells : Bool) (now : DiskState) (n : ℕ) (v : TopView) (file : List ℕ) (rows : List Row) (may : List Stand) : Type 0 where
+pub record Lasts (tells : Bool) (now : DiskState) (n : ℕ) (asked : HeadsAsked) (v : TopView) (file : List ℕ) (rows : List Row) (may : List Stand) : Type 0 where
   pub synced_sectors : ℕ
   pub within : synced_sectors ≤ v.filled
   pub mark_is : file_of v.mark ≡ mark_file v.epoch
   pub mark : IsKept now v.mark
   pub bytes_left : (c : List ℕ) → now.may_leave (data_file v.epoch) c → HasFront (4096 + 512 * synced_sectors) file c
-  pub index_left : (c : List ℕ) → now.may_leave (index_file v.epoch) c → IsIndex n c (take v.synced rows)
+  pub index_left : (c : List ℕ) → now.may_leave (index_file v.epoch) c → IsIndex n asked c (take v.synced rows)
   pub seen : IsTrue tells → HasFront (4096 + 512 * v.filled) file (now.seen (data_file v.epoch))
   pub bodies : (body : List ℕ) → MayHold v.mark body → (s : Stand) × Contains may s × IsCounted n file rows v.synced synced_sectors body s
 
 -- the top in memory is that top from above, of an image of n sectors; a crash now may leave files that show one of those
-pub record ViewFits (tells : Bool) (now : DiskState) (n : ℕ) (parent : Option (List ℕ)) (v : TopView) (s : Stand) (may : List Stand) : Type 0 where
+pub record ViewFits (tells : Bool) (now : DiskState) (n : ℕ) (asked : HeadsAsked) (v : TopView) (s : Stand) (may : List Stand) : Type 0 where
   pub file : List ℕ
   pub rows : List Row
-  pub holds : Holds n parent v s file rows
-  pub lasts : Lasts tells now n v file rows may
+  pub holds : Holds n asked v s file rows
+  pub lasts : Lasts tells now n asked v file rows may
 
 -- the same of a top of which all rows and sectors are on the disk, but perhaps not counted by its mark
-pub record ViewStored (tells : Bool) (now : DiskState) (n : ℕ) (parent : Option (List ℕ)) (v : TopView) (s : Stand) (may : List Stand) : Type 0 where
+pub record ViewStored (tells : Bool) (now : DiskState) (n : ℕ) (asked : HeadsAsked) (v : TopView) (s : Stand) (may : List Stand) : Type 0 where
   pub file : List ℕ
   pub rows : List Row
-  pub holds : Holds n parent v s file rows
-  pub lasts : Lasts tells now n v file rows may
+  pub holds : Holds n asked v s file rows
+  pub lasts : Lasts tells now n asked v file rows may
   pub all_rows : v.synced ≡ v.rows
   pub all_sectors : lasts.synced_sectors ≡ v.filled
 
-abbrev pub TopFits : Bool → DiskState → ℕ → Option (List ℕ) → Top → Stand → List Stand → Type 0
-TopFits tells now n parent top s may = ViewFits tells now n parent (view_of top) s may
+abbrev pub TopFits : Bool → DiskState → ℕ → HeadsAsked → Top → Stand → List Stand → Type 0
+TopFits tells now n asked top s may = ViewFits tells now n asked (view_of top) s may
 
 -- the top was made for this disk, and all that was done to it and its files since was done by its calls
 pub record IsFitted (tells : Bool) (now : DiskState) (top : Top) : Type 0 where
   pub n : ℕ
-  pub parent : Option (List ℕ)
+  pub asked : HeadsAsked
   pub stand : Stand
   pub may : List Stand
-  pub fits : TopFits tells now n parent top stand may
+  pub fits : TopFits tells now n asked top stand may
 
 -- nothing is new: the mark counts all rows and sectors of the top, and a crash leaves no other body of it
 pub record IsAllCounted (v : TopView) : Type 0 where
@@ -122,7 +122,7 @@ pub record TopGoes (tells : Bool) (old new : DiskState) (p q : Top) (becomes : S
   pub epoch : epoch_of q ≡ epoch_of p
   pub sectors : sectors_of q ≡ sectors_of p
   pub sequence : sequence_of q ≤ sequence_of p + 1
-  pub fits : (n : ℕ) (parent : Option (List ℕ)) (s : Stand) (may : List Stand) → TopFits tells old n parent p s may
-      → TopFits tells new n parent q (becomes s) (leaves s may)
-  pub any_moment : (n : ℕ) (parent : Option (List ℕ)) (s : Stand) (may : List Stand) → TopFits tells old n parent p s may
-      → Run (TopFiles (epoch_of p)) old new (ShowsOne (epoch_of p) n parent (this_too s may))
+  pub fits : (n : ℕ) (asked : HeadsAsked) (s : Stand) (may : List Stand) → TopFits tells old n asked p s may
+      → TopFits tells new n asked q (becomes s) (leaves s may)
+  pub any_moment : (n : ℕ) (asked : HeadsAsked) (s : Stand) (may : List Stand) → TopFits tells old n asked p s may
+      → Run (TopFiles (epoch_of p)) old new (ShowsOne (epoch_of p) n asked (this_too s may))

@@ -15,17 +15,17 @@ use Rattle.top_writer.specs.declared.fault.TopFault.{TopFault}
 use Rattle.top_writer.specs.declared.fault.TopFault.TheVariants.{Memory, Failed, NoTop}
 use Rattle.top_writer.specs.declared.fault.TopReason.{TopReason}
 use Rattle.top_writer.specs.declared.fault.TopReason.TheVariants as why
-use Rattle.top_writer.specs.Files.{Stored, data_file, index_file, mark_file}
+use Rattle.top_writer.specs.Files.{Stored, data_file, index_file, mark_file, HeadsAsked}
 use Rattle.top_writer.specs.Fitting.{IsData}
 use Rattle.top_writer.specs.Reasons.{AreLong, IsRowReason, IsReason, IsWhole}
 use Rattle.top_writer.specs.Rows.{IsTopRow}
 use Rattle.top_writer.specs.Showing.{Counts}
 
 -- why a load was refused; of the disk's fault and want of memory nothing is said
-abbrev pub IsRefused : ℕ → Option (List ℕ) → Stored → TopFault → Type 0
-IsRefused n parent t Memory = ⊤
-IsRefused n parent t Failed = ⊤
-IsRefused n parent t (NoTop reason) = IsReason n parent t reason
+abbrev pub IsRefused : ℕ → HeadsAsked → Stored → TopFault → Type 0
+IsRefused n asked t Memory = ⊤
+IsRefused n asked t Failed = ⊤
+IsRefused n asked t (NoTop reason) = IsReason n asked t reason
 
 -- the disk failed, or the file is too short for a first block
 abbrev pub IsShort : Bool → List ℕ → TopFault → Type 0
@@ -44,13 +44,13 @@ pub record AreFronts (t : Stored) (bytes index : List ℕ) : Type 0 where
   pub index_are : index ≡ take 4096 t.index
 
 -- what the files say of what was found, where the disk tells
-pub record IsTold (n : ℕ) (parent : Option (List ℕ)) (t : Stored) (mark : Mark) (block : List ℕ) (rows filled : ℕ) : Type 0 where
+pub record IsTold (n : ℕ) (asked : HeadsAsked) (t : Stored) (mark : Mark) (block : List ℕ) (rows filled : ℕ) : Type 0 where
   pub front : block ≡ take 4096 t.bytes
   pub shows : Shows (sequence_in mark) (body_in mark) t.mark
-  pub whole : IsWhole n parent t rows filled
+  pub whole : IsWhole n asked t rows filled
 
 -- what was found before the rows are read: the head of the data, a mark, and what it counts
-pub record IsFound (tells : Bool) (now : DiskState) (epoch n : ℕ) (parent : Option (List ℕ)) (t : Stored) (mark : Mark) (rows filled : ℕ) : Type 0 where
+pub record IsFound (tells : Bool) (now : DiskState) (epoch n : ℕ) (asked : HeadsAsked) (t : Stored) (mark : Mark) (rows filled : ℕ) : Type 0 where
   pub file_is : file_of mark ≡ mark_file epoch
   pub low : sequence_in mark ≤ 2 ^ 61
   pub kept : IsKept now mark
@@ -58,10 +58,10 @@ pub record IsFound (tells : Bool) (now : DiskState) (epoch n : ℕ) (parent : Op
   pub counts : Counts (body_in mark) rows filled
   pub block : List ℕ
   pub block_long : length block ≡ 4096
-  pub head : IsData n parent block
+  pub head : IsData n asked block
   pub bytes_left : (c : List ℕ) → now.may_leave (data_file epoch) c → c ≡ t.bytes
   pub index_left : (c : List ℕ) → now.may_leave (index_file epoch) c → c ≡ t.index
-  pub told : IsTrue tells → IsTold n parent t mark block rows filled
+  pub told : IsTrue tells → IsTold n asked t mark block rows filled
 
 -- what a row says of a sector of which it speaks, as an entry of a table
 abbrev pub what_by : Row → ℕ → What
@@ -93,6 +93,12 @@ abbrev pub StopsReading : ℕ → ℕ → List ℕ → ℕ → TopFault → Type
 StopsReading n filled index count Memory = ⊤
 StopsReading n filled index count Failed = ⊤
 StopsReading n filled index count (NoTop reason) = Stops n filled index 4096 0 count reason
+
+-- why putting the rows of a piece, of which the first has that number, stopped; of want of memory nothing is said
+abbrev pub StopsPutting : ℕ → ℕ → List ℕ → ℕ → ℕ → TopFault → Type 0
+StopsPutting n filled piece number count Memory = ⊤
+StopsPutting n filled piece number count Failed = ⊥
+StopsPutting n filled piece number count (NoTop reason) = Stops n filled piece 0 number count reason
 
 -- so many rows of the index are in the table
 pub record AreLoaded (tells : Bool) (n filled : ℕ) (index : List ℕ) (count : ℕ) (segments : List Segment) : Type 0 where

@@ -4,7 +4,7 @@ use Rattle.block_disk.specs.DiskState.{DiskState, Files}
 use Rattle.block_disk.specs.Claims.{Run}
 use Rattle.flat_image.specs.Left.{Stand}
 use Rattle.top_writer.specs.declared.top.Top.{Top}
-use Rattle.top_writer.specs.Files.{TopFiles, stored_in}
+use Rattle.top_writer.specs.Files.{TopFiles, stored_in, HeadsAsked}
 use Rattle.top_writer.specs.Fitting.{TopFits}
 use Rattle.top_writer.specs.Showing.{ShowsTop}
 use Rattle.top_writer.specs.Stands.{with_write, with_zero, unchanged, as_before, just_this, this_too}
@@ -78,17 +78,17 @@ pub record IsFlushedFront (s : Stand) (calls : List Call) (t : Stand) : Type 0 w
   pub is : t ≡ stand_after s front
 
 -- the files of the epoch show the top after such a front
-pub record ShowsFront (epoch n : ℕ) (parent : Option (List ℕ)) (s : Stand) (calls : List Call) (files : Files) : Type 0 where
+pub record ShowsFront (epoch n : ℕ) (asked : HeadsAsked) (s : Stand) (calls : List Call) (files : Files) : Type 0 where
   pub stand : Stand
   pub front : IsFlushedFront s calls stand
-  pub shows : ShowsTop n parent stand (stored_in epoch files)
+  pub shows : ShowsTop n asked stand (stored_in epoch files)
 
 -- a top is what the calls made of s, and a crash may leave of it what they may leave
-abbrev pub FitsAfter : Bool → DiskState → ℕ → Option (List ℕ) → Top → Stand → List Call → Type 0
-FitsAfter tells now n parent top s calls = TopFits tells now n parent top (stand_after s calls) (left_by s calls)
+abbrev pub FitsAfter : Bool → DiskState → ℕ → HeadsAsked → Top → Stand → List Call → Type 0
+FitsAfter tells now n asked top s calls = TopFits tells now n asked top (stand_after s calls) (left_by s calls)
 
 -- after one call more it is what they made and the call, and at each moment of the call the files that a crash leaves
 -- show the top after a front that has all before the last flush that answered Ok
-pub record GoesOn (tells : Bool) (old new : DiskState) (n : ℕ) (parent : Option (List ℕ)) (p q : Top) (s : Stand) (calls : List Call) (call : Call) : Type 0 where
-  pub fits : FitsAfter tells new n parent q s (calls ++ call ∷ [])
-  pub any_moment : Run (TopFiles (epoch_of p)) old new (ShowsFront (epoch_of p) n parent s calls)
+pub record GoesOn (tells : Bool) (old new : DiskState) (n : ℕ) (asked : HeadsAsked) (p q : Top) (s : Stand) (calls : List Call) (call : Call) : Type 0 where
+  pub fits : FitsAfter tells new n asked q s (calls ++ call ∷ [])
+  pub any_moment : Run (TopFiles (epoch_of p)) old new (ShowsFront (epoch_of p) n asked s calls)

@@ -7,16 +7,16 @@ use Rattle.gate_mark.specs.MarkFile.{Shows}
 use Rattle.flat_image.specs.Left.{Stand}
 use Rattle.flat_image.specs.History.{HasRoom}
 use Rattle.flat_image.specs.RowCells.{AreSpelled}
-use Rattle.top_writer.specs.Files.{Stored, stored_in, HasBlock, HasSectors, parent_said, IsParent, rows_said, sectors_said}
+use Rattle.top_writer.specs.Files.{Stored, stored_in, HasBlock, HasSectors, parent_said, IsParent, rows_said, sectors_said, HeadsAsked}
 use Rattle.top_writer.specs.Rows.{IsTopRow, top_sheet}
 
 -- the data file and the index file have the heads of a top of an image of n sectors
-pub record HasHeads (n : ℕ) (parent : Option (List ℕ)) (bytes index : List ℕ) : Type 0 where
+pub record HasHeads (n : ℕ) (asked : HeadsAsked) (bytes index : List ℕ) : Type 0 where
   pub bytes_head : HasBlock TopBytes bytes
   pub index_head : HasBlock TopRows index
-  pub bytes_size : HasSectors n bytes
-  pub index_size : HasSectors n index
-  pub parent_is : IsParent parent (parent_said bytes)
+  pub bytes_size : HasSectors asked.exact n bytes
+  pub index_size : HasSectors asked.exact n index
+  pub parent_is : IsParent asked.parent (parent_said bytes)
 
 -- the body of a mark counts so many rows and sectors, no more than a top may have
 pub record Counts (body : List ℕ) (rows filled : ℕ) : Type 0 where
@@ -26,11 +26,11 @@ pub record Counts (body : List ℕ) (rows filled : ℕ) : Type 0 where
 
 -- The files show the top: their mark counts its rows and its sectors, both files have so many, each row is as it has to
 -- be, and the rows painted in order are its cells. What stands behind them is not looked at.
-pub record ShowsTop (n : ℕ) (parent : Option (List ℕ)) (s : Stand) (stored : Stored) : Type 0 where
+pub record ShowsTop (n : ℕ) (asked : HeadsAsked) (s : Stand) (stored : Stored) : Type 0 where
   pub sequence : ℕ
   pub body : List ℕ
   pub rows : List Row
-  pub heads : HasHeads n parent stored.bytes stored.index
+  pub heads : HasHeads n asked stored.bytes stored.index
   pub mark : Shows sequence body stored.mark
   pub counts : Counts body s.rows s.filled
   pub index_long : 4096 + 16 * s.rows ≤ length stored.index
@@ -41,7 +41,7 @@ pub record ShowsTop (n : ℕ) (parent : Option (List ℕ)) (s : Stand) (stored :
   pub cells : s.cells ≡ top_sheet stored.bytes n rows
 
 -- the files of the epoch show one of these tops
-pub record ShowsOne (epoch n : ℕ) (parent : Option (List ℕ)) (may : List Stand) (files : Files) : Type 0 where
+pub record ShowsOne (epoch n : ℕ) (asked : HeadsAsked) (may : List Stand) (files : Files) : Type 0 where
   pub stand : Stand
   pub among : Contains may stand
-  pub shows : ShowsTop n parent stand (stored_in epoch files)
+  pub shows : ShowsTop n asked stand (stored_in epoch files)

@@ -1,6 +1,6 @@
 -- A top, seen from above, and what a write and a zero make of it.
 use Rattle.std.specs.Prelude.{ℕ, ◌+◌, List, [], ◌∷◌}
-use Rattle.flat_image.specs.declared.act.Act.TheVariants.{Write, Zero}
+use Rattle.flat_image.specs.declared.act.Act.TheVariants.{Write, Zero, Grow}
 use Rattle.flat_image.specs.History.{written, rows_taken, sectors_taken}
 use Rattle.flat_image.specs.Left.{Stand}
 
@@ -12,6 +12,10 @@ with_write at bytes s = record
 -- after a zero of so many sectors from that one on
 abbrev pub with_zero : ℕ → ℕ → Stand → Stand
 with_zero at count s = record { cells = written s.cells (Zero at count); rows = s.rows + rows_taken (Zero at count); filled = s.filled }
+
+-- in an image of so many sectors, no fewer than before
+abbrev pub with_grow : ℕ → Stand → Stand
+with_grow sectors s = record s { cells = written s.cells (Grow sectors) }
 
 abbrev pub unchanged : Stand → Stand
 unchanged s = s

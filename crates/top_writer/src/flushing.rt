@@ -3,7 +3,7 @@ ghost use Rattle.std.specs.Prelude.{◌≡◌, ℕ, ◌+◌, ◌*◌, ◌^◌, �
 ghost use Rattle.sector_extent.specs.Causes.{Charges};
 ghost use Rattle.block_disk.specs.Changes.{put, Torn, Same, Only};
 ghost use Rattle.block_disk.specs.DiskState.{Steps};
-ghost use Rattle.top_writer.specs.Files.{data_file, index_file};
+ghost use Rattle.top_writer.specs.Files.{data_file, index_file, HeadsAsked};
 ghost use Rattle.flat_image.specs.Left.{Stand};
 ghost use Rattle.top_writer.specs.Fitting.{IsFitted, IsFlushed, TopFits, TopGoes, ViewStored};
 ghost use Rattle.top_writer.specs.Stands.{unchanged, as_before, just_this, this_too};
@@ -54,9 +54,9 @@ impl Top {
     fn store<D: Disk>(&mut self, disk: &mut D) -> Result<(), DiskFailed>
         requires fits { IsFitted D.tells (D.state disk.old) self.old }
         ensures goes { TopGoes D.tells (D.state disk.old) (D.state disk.new) self.old self.new unchanged as_before }
-        ensures stored { OnOk result ((n : ℕ) (parent : Option (List ℕ)) (s : Stand) (may : List Stand)
-            → TopFits D.tells (D.state disk.old) n parent self.old s may
-            → ViewStored D.tells (D.state disk.new) n parent (view_of self.new) s may) }
+        ensures stored { OnOk result ((n : ℕ) (asked : HeadsAsked) (s : Stand) (may : List Stand)
+            → TopFits D.tells (D.state disk.old) n asked self.old s may
+            → ViewStored D.tells (D.state disk.new) n asked (view_of self.new) s may) }
         ensures mark { self.new.mark ≡ self.old.mark }
         ensures cause { Charges D.faults disk.old disk.new (IsErr result) }
     {

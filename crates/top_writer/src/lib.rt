@@ -19,6 +19,7 @@ mod writing;
 
 pub use fault::{ReadFault, TopFault, TopMakeFault, TopReason, WriteFault};
 pub use laws::{call_laws, top_laws};
+pub use load_checks::is_size;
 pub use top::Top;
 
 #[cfg(test)]

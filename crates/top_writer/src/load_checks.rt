@@ -7,7 +7,7 @@ ghost use Rattle.lsmt_header.specs.Faults.{IsFault};
 ghost use Rattle.gate_mark.specs.Mark.{body_in};
 ghost use Rattle.flat_image.specs.History.{IsOver};
 ghost use Rattle.top_writer.specs.declared.fault.TopReason.TheVariants as why;
-ghost use Rattle.top_writer.specs.Files.{Stored, IsParent};
+ghost use Rattle.top_writer.specs.Files.{Stored, HeadsAsked, asked_of, IsSizeFor, IsParent};
 ghost use Rattle.top_writer.specs.Loading.{AreFronts};
 ghost use Rattle.top_writer.specs.Reasons.{HasParent, HasMark, IsReason};
 ghost use Rattle.top_writer.specs.Showing.{Counts};
@@ -26,6 +26,18 @@ fn is_parent(asked: Option<[u8; 16]>, parent: &[u8; 16]) -> bool
     match asked {
         None => true,
         Some(asked) => asked == *parent,
+    }
+}
+
+/// So many sectors, as a head says them, are those of the image, or where they need not be just those, no
+/// more.
+pub fn is_size(exact: bool, sectors: u64, said: u64) -> bool
+    ensures { IsTrue result ↔ IsSizeFor exact sectors said }
+{
+    if exact {
+        said == sectors
+    } else {
+        said <= sectors
     }
 }
 
@@ -58,18 +70,22 @@ pub(crate) fn check_fronts(
     bytes: &[u8; 4096],
     index: &[u8; 4096],
     sectors: u64,
+    exact: bool,
     parent: Option<[u8; 16]>,
 ) -> Result<(), TopReason>
-    ensures ok { OnOk result ((t : Stored) → AreFronts t bytes.now index.now → HasParent sectors parent t) }
-    ensures reason { IfErr result (λ reason.
-        (t : Stored) → AreFronts t bytes.now index.now → IsReason sectors parent t reason) }
+    ensures ok { OnOk result ((t : Stored)
+        → AreFronts t bytes.now index.now → HasParent sectors (asked_of exact parent) t) }
+    ensures reason { IfErr result (λ reason. (t : Stored)
+        → AreFronts t bytes.now index.now → IsReason sectors (asked_of exact parent) t reason) }
 {
     let head = bytes_head(bytes)?;
     let rows = rows_head(index)?;
-    if head.sectors != sectors {
+    let bytes_fit = is_size(exact, sectors, head.sectors);
+    if !bytes_fit {
         return Err(TopReason::HeadSize(head.sectors));
     }
-    if rows.sectors != sectors {
+    let rows_fit = is_size(exact, sectors, rows.sectors);
+    if !rows_fit {
         return Err(TopReason::HeadSize(rows.sectors));
     }
     if !is_parent(parent, &head.parent) {
@@ -88,9 +104,9 @@ pub(crate) fn check_counts(
     ensures counts { IfOk result (λ counts. Counts (body_in mark.now) counts.0 counts.1) }
     ensures index { IfOk result (λ counts. 4096 + 16 * counts.0 ≤ index_len) }
     ensures bytes { IfOk result (λ counts. 4096 + 512 * counts.1 ≤ bytes_len) }
-    ensures reason { IfErr result (λ reason. (n : ℕ) (parent : Option (List ℕ)) (t : Stored)
-        → HasMark n parent t (body_in mark.now)
-        → index_len ≡ length t.index → bytes_len ≡ length t.bytes → IsReason n parent t reason) }
+    ensures reason { IfErr result (λ reason. (n : ℕ) (asked : HeadsAsked) (t : Stored)
+        → HasMark n asked t (body_in mark.now)
+        → index_len ≡ length t.index → bytes_len ≡ length t.bytes → IsReason n asked t reason) }
 {
     let (rows, sectors) = counts_of(&mark.get());
     if rows > TOP_ROWS {

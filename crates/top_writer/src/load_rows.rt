@@ -9,7 +9,7 @@ ghost use Rattle.block_disk.specs.Claims.{Quiet};
 ghost use Rattle.flat_image.specs.History.{HasRoom};
 ghost use Rattle.top_writer.specs.declared.fault.TopFault.TheVariants.{Failed};
 ghost use Rattle.top_writer.specs.Files.{index_file};
-ghost use Rattle.top_writer.specs.Loading.{entry_of, Puts, Stops, StopsReading, AreLoaded};
+ghost use Rattle.top_writer.specs.Loading.{entry_of, Puts, StopsPutting, StopsReading, AreLoaded};
 ghost use Rattle.top_writer.specs.Reasons.{IsRowReason};
 ghost use Rattle.top_writer.specs.Rows.{IsStored, IsTopRow};
 
@@ -84,29 +84,29 @@ fn put_row(table: &mut SegTable, row: &Row)
     }
 }
 
-// Reads the rows of a piece of the index, of which the first has that number, into the table, which
-// has room for them.
+// Reads the rows of a piece of the index, of which the first has that number, into the table. Room is
+// made for one row at a time, since a row seldom wants more memory than the one before it left.
 fn put_rows(
     table: &mut SegTable,
     number: u64,
     piece: &[u8],
     sectors: u64,
     filled: u64,
-) -> Result<(), TopReason>
+) -> Result<(), TopFault>
     requires size { sectors ≤ 2 ^ 31 }
     requires few { filled ≤ 2 ^ 30 }
     requires number { number + length piece.now ≤ 2 ^ 50 }
     requires whole { length piece.now % 16 ≡ 0 }
-    requires room { length piece.now / 16 ≤ table.old.spare }
     ensures puts { OnOk result
         (Puts sectors filled piece.now table.old.segments table.new.segments (length piece.now / 16)) }
-    ensures spare { OnOk result (table.new.spare + length piece.now / 16 ≡ table.old.spare) }
-    ensures reason { IfErr result (Stops sectors filled piece.now 0 number (length piece.now / 16)) }
+    ensures reason { IfErr result (StopsPutting sectors filled piece.now number (length piece.now / 16)) }
+    ensures calm { ¬ IsErrOf result Failed }
 {
     let mut number = number;
     let mut left = piece;
     while let Some((bytes, rest)) = left.split_first_chunk() {
         let row = top_row(bytes, number, sectors, filled)?;
+        table.reserve(1)?;
         put_row(table, &row);
         number += 1;
         left = rest;
@@ -115,8 +115,7 @@ fn put_rows(
 }
 
 /// Reads the first so many rows of the index into a table, in order, so that a later one hides those
-/// before it. The memory is that of the table, which gets room for a piece at a time, and of one
-/// piece.
+/// before it. The memory is that of the table and of one piece.
 pub(crate) fn read_table<D: Disk>(
     alloc: Global,
     disk: &mut D,
@@ -174,7 +173,6 @@ fn fill_table<D: Disk>(
     let mut number = 0;
     while number < rows {
         let more = (rows - number).min(PIECE_ROWS);
-        table.reserve(more as usize)?;
         let (piece, _) = buffer.split_at_mut((ROW * more) as usize);
         disk.read_at(index_number(epoch), BLOCK + ROW * number, piece)?;
         put_rows(table, number, piece, sectors, filled)?;

@@ -66,12 +66,14 @@ fn apply(rt: &impl Abort, bytes: &mut Vec<u8>, change: Change) {
     }
 }
 
-// The top of epoch 0, where the file of that number was changed.
+// The top of epoch 0, of an image of four sectors, or no fewer where that is not exact, where the file of
+// that number was changed.
 fn load(
     rt: &impl Abort,
     alloc: Global,
     number: u32,
     what: Change,
+    exact: bool,
 ) -> Result<Result<Top, TopFault>, Fail> {
     let mut list = Vec::new(alloc);
     list.push((1, data_file(alloc)?))?;
@@ -85,7 +87,7 @@ fn load(
         files.push((file, Bytes::from_vec(bytes)))?;
     }
     let mut disk = MemDisk::of(alloc, FileList::from_vec(files))?;
-    Ok(Top::load(alloc, &mut disk, 0, 4, Some(PARENT)))
+    Ok(Top::load(alloc, &mut disk, 0, 4, exact, Some(PARENT)))
 }
 
 #[test]
@@ -139,9 +141,32 @@ fn each_reason_once(rt: HostRuntime) -> Result<(), Fail> {
         (2, Change::Byte(4_104, 7), TopReason::RowPlace(0)),
         (2, Change::Byte(4_104, 9), TopReason::RowPlace(0)),
     ] {
-        match load(&rt, alloc, file, what)? {
+        match load(&rt, alloc, file, what, true)? {
             Ok(_) => assert!(rt; false, "{what:?}"),
             Err(fault) => assert_eq!(rt; fault, TopFault::NoTop(reason), "{what:?}"),
+        }
+    }
+    Ok(())
+}
+
+// The sectors that a head says are compared exactly, or as no more than those of the image.
+#[test]
+fn heads_of_other_sizes(rt: HostRuntime) -> Result<(), Fail> {
+    let alloc = rt.alloc();
+    for (file, sectors, exact, is_loaded) in [
+        (1, 3, true, false),
+        (2, 3, true, false),
+        (1, 3, false, true),
+        (2, 3, false, true),
+        (1, 5, false, false),
+        (2, 5, false, false),
+    ] {
+        match load(&rt, alloc, file, Change::Byte(32, sectors), exact)? {
+            Ok(_) => assert!(rt; is_loaded, "{file} {sectors} {exact}"),
+            Err(fault) => {
+                assert!(rt; !is_loaded);
+                assert_eq!(rt; fault, TopFault::NoTop(TopReason::HeadSize(sectors as u64)));
+            }
         }
     }
     Ok(())
@@ -150,7 +175,7 @@ fn each_reason_once(rt: HostRuntime) -> Result<(), Fail> {
 #[test]
 fn a_later_row_hides(rt: HostRuntime) -> Result<(), Fail> {
     let alloc = rt.alloc();
-    match load(&rt, alloc, 3, Change::Cut(1_024))? {
+    match load(&rt, alloc, 3, Change::Cut(1_024), true)? {
         Ok(top) => {
             assert_eq!(rt; top.used(), (2, 2));
             let first = Segment {

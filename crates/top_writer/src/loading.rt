@@ -10,7 +10,7 @@ ghost use Rattle.flat_image.specs.Left.{Stand};
 ghost use Rattle.top_writer.specs.declared.fault.TopFault.TheVariants.{Memory, Failed, NoTop};
 ghost use Rattle.top_writer.specs.declared.fault.TopReason.{TopReason};
 ghost use Rattle.top_writer.specs.Blank.{blank_sheet};
-ghost use Rattle.top_writer.specs.Files.{Stored, stored_in, data_file, index_file, mark_file};
+ghost use Rattle.top_writer.specs.Files.{Stored, HeadsAsked, asked_of, stored_in, data_file, index_file, mark_file};
 ghost use Rattle.top_writer.specs.Fitting.{IsFlushed, TopFits};
 ghost use Rattle.top_writer.specs.Loading.{IsRefused, IsShort, IsFront, IsFound};
 ghost use Rattle.top_writer.specs.Reasons.{HasParent, IsReason};
@@ -43,13 +43,14 @@ struct Found {
 }
 
 impl Top {
-    /// Reads the top of an epoch, of an image of so many sectors, after a sync of its three files. The
-    /// parent is compared where one is given.
+    /// Reads the top of an epoch, of an image of so many sectors, after a sync of its three files. Its heads
+    /// say just so many, where that is asked for, or else no more. The parent is compared where one is given.
     pub fn load<D: Disk>(
         alloc: Global,
         disk: &mut D,
         epoch: u32,
         sectors: u64,
+        exact: bool,
         parent: Option<[u8; 16]>,
     ) -> Result<Top, TopFault>
         requires epoch { epoch ≤ 255 }
@@ -57,24 +58,27 @@ impl Top {
         // the top that the files show, by a mark whose sequence is at most 2^61, and what a crash may leave is
         // just that; where the disk does not tell, what was read of them, with zeros as data
         ensures shows { IfOk result (λ top. (s : Stand)
-            × TopFits D.tells (D.state disk.new) sectors parent top s (s ∷ [])
-            × (IsTrue D.tells → (shown : ShowsTop sectors parent s (stored_in epoch (D.state disk.old).seen))
+            × TopFits D.tells (D.state disk.new) sectors (asked_of exact parent) top s (s ∷ [])
+            × (IsTrue D.tells
+            → (shown : ShowsTop sectors (asked_of exact parent) s (stored_in epoch (D.state disk.old).seen))
             × (shown.sequence ≤ 2 ^ 61))
             × (¬ IsTrue D.tells → s.cells ≡ blank_sheet sectors (table_of top).segments)) }
         ensures is { IfOk result (λ top.
             (epoch_of top ≡ epoch) × (sectors_of top ≡ sectors) × (sequence_of top ≤ 2 ^ 61)) }
         ensures flushed { IfOk result IsFlushed }
         ensures reason { (reason : TopReason) → result ≡ Err (NoTop reason) → IsTrue D.tells
-            → IsReason sectors parent (stored_in epoch (D.state disk.old).seen) reason }
+            → IsReason sectors (asked_of exact parent) (stored_in epoch (D.state disk.old).seen) reason }
         // files that show a top are loaded as that top, or there is no memory, or the disk fails
-        ensures complete { (s : Stand) (shows : ShowsTop sectors parent s (stored_in epoch (D.state disk.old).seen))
+        ensures complete { (s : Stand)
+            (shows : ShowsTop sectors (asked_of exact parent) s (stored_in epoch (D.state disk.old).seen))
             → shows.sequence ≤ 2 ^ 61 → IsTrue D.tells
-            → MatchResult result (λ top. TopFits D.tells (D.state disk.new) sectors parent top s (s ∷ []))
+            → MatchResult result
+            (λ top. TopFits D.tells (D.state disk.new) sectors (asked_of exact parent) top s (s ∷ []))
             (λ fault. (fault ≡ Memory) ⊎ (fault ≡ Failed)) }
         ensures quiet { Quiet (D.state disk.old) (D.state disk.new) }
         ensures cause { Charges D.faults disk.old disk.new (IsErrOf result Failed) }
     {
-        let found = find(disk, epoch, sectors, parent)?;
+        let found = find(disk, epoch, sectors, exact, parent)?;
         let table = read_table(alloc, disk, epoch, sectors, found.rows, found.filled)?;
         Ok(Top {
             epoch,
@@ -94,20 +98,21 @@ fn find<D: Disk>(
     disk: &mut D,
     epoch: u32,
     sectors: u64,
+    exact: bool,
     parent: Option<[u8; 16]>,
 ) -> Result<Found, TopFault>
     requires epoch { epoch ≤ 255 }
-    ensures found { IfOk result (λ found. IsFound D.tells (D.state disk.new) epoch sectors parent
+    ensures found { IfOk result (λ found. IsFound D.tells (D.state disk.new) epoch sectors (asked_of exact parent)
         (stored_in epoch (D.state disk.old).seen) found.mark found.rows found.filled) }
     ensures reason { IfErr result (λ fault. IsTrue D.tells
-        → IsRefused sectors parent (stored_in epoch (D.state disk.old).seen) fault) }
+        → IsRefused sectors (asked_of exact parent) (stored_in epoch (D.state disk.old).seen) fault) }
     ensures quiet { Quiet (D.state disk.old) (D.state disk.new) }
     ensures cause { Charges D.faults disk.old disk.new (IsErrOf result Failed) }
 {
     sync_files(disk, epoch)?;
     let bytes = read_front(disk, data_number(epoch))?;
     let index = read_front(disk, index_number(epoch))?;
-    check_fronts(&bytes.block, &index.block, sectors, parent)?;
+    check_fronts(&bytes.block, &index.block, sectors, exact, parent)?;
     let mark = load_mark(disk, epoch)?;
     let (rows, filled) = check_counts(&mark, index.len, bytes.len)?;
     Ok(Found { mark, rows, filled })
@@ -155,8 +160,8 @@ fn load_mark<D: Disk>(disk: &mut D, epoch: u32) -> Result<Mark, TopFault>
     ensures bodies { IfOk result (λ m. (b : List ℕ) → MayHold m b → b ≡ body_in m) }
     ensures kept { IfOk result (IsKept (D.state disk.new)) }
     ensures reason { IfErr result (λ fault. IsTrue D.tells
-        → (n : ℕ) (parent : Option (List ℕ)) (t : Stored) → HasParent n parent t
-        → t.mark ≡ (D.state disk.old).seen (mark_file epoch) → IsRefused n parent t fault) }
+        → (n : ℕ) (asked : HeadsAsked) (t : Stored) → HasParent n asked t
+        → t.mark ≡ (D.state disk.old).seen (mark_file epoch) → IsRefused n asked t fault) }
     ensures quiet { Quiet (D.state disk.old) (D.state disk.new) }
     ensures cause { Charges D.faults disk.old disk.new (IsErrOf result Failed) }
 {

@@ -1,12 +1,12 @@
 //! Making a top.
-ghost use Rattle.std.specs.Prelude.{◌≡◌, ℕ, ◌+◌, ◌^◌, ◌<◌, ◌≤◌, List, [], ◌∷◌, Some, IsTrue, OnOk, IfOk, IsErrOf, IsErr};
+ghost use Rattle.std.specs.Prelude.{◌≡◌, ℕ, ◌+◌, ◌^◌, ◌<◌, ◌≤◌, Bool, List, [], ◌∷◌, Some, IsTrue, OnOk, IfOk, IsErrOf, IsErr};
 ghost use Rattle.sector_extent.specs.Causes.{Charges};
 ghost use Rattle.lsmt_header.specs.declared.head.Kind.TheVariants.{TopBytes, TopRows};
 ghost use Rattle.lsmt_header.specs.Blocks.{IsSize, nil};
 ghost use Rattle.block_disk.specs.Claims.{Run, FileRun};
 ghost use Rattle.flat_image.specs.Left.{fresh_stand};
 ghost use Rattle.top_writer.specs.declared.fault.TopMakeFault.TheVariants.{Memory, Failed};
-ghost use Rattle.top_writer.specs.Files.{data_file, index_file, mark_file, TopFiles, new_head};
+ghost use Rattle.top_writer.specs.Files.{asked_of, data_file, index_file, mark_file, TopFiles, new_head};
 ghost use Rattle.top_writer.specs.Fitting.{IsFlushed, TopFits};
 ghost use Rattle.top_writer.specs.Making.{IsMade, IsNewMark};
 ghost use Rattle.top_writer.specs.View.{epoch_of, sectors_of, sequence_of};
@@ -32,8 +32,8 @@ impl Top {
     ) -> Result<Top, TopMakeFault>
         requires epoch { epoch ≤ 255 }
         requires size { IsSize sectors }
-        ensures fits { IfOk result (λ top. TopFits D.tells (D.state disk.new) sectors (Some parent) top
-            (fresh_stand sectors) (fresh_stand sectors ∷ [])) }
+        ensures fits { IfOk result (λ top. (exact : Bool) → TopFits D.tells (D.state disk.new) sectors
+            (asked_of exact (Some parent)) top (fresh_stand sectors) (fresh_stand sectors ∷ [])) }
         ensures is { IfOk result (λ top. (epoch_of top ≡ epoch) × (sectors_of top ≡ sectors) × (sequence_of top ≡ 1)) }
         ensures flushed { IfOk result IsFlushed }
         ensures bytes { OnOk result

@@ -8,7 +8,7 @@ ghost use Rattle.seg_table.specs.Pieces.{AreCells, IsNext, end_of};
 ghost use Rattle.block_disk.specs.Claims.{Quiet};
 ghost use Rattle.flat_image.specs.Left.{Stand};
 ghost use Rattle.top_writer.specs.declared.fault.ReadFault.TheVariants.{Failed};
-ghost use Rattle.top_writer.specs.Files.{data_file};
+ghost use Rattle.top_writer.specs.Files.{data_file, HeadsAsked};
 ghost use Rattle.top_writer.specs.Fitting.{IsFitted, TopFits};
 ghost use Rattle.top_writer.specs.Gaps.{Paints, IsHole, AddsGaps};
 ghost use Rattle.top_writer.specs.Reading.{AreLow, Says, Pending, IsPiece, FillsStretch, IsRead, ReadsTo, ReadsOn};
@@ -62,11 +62,11 @@ impl Top {
         requires within { extent.at + extent.count ≤ sectors_of self.now }
         requires fits { IsFitted D.tells (D.state disk.old) self.now }
         ensures bytes { OnOk result (IsTrue D.tells
-            → (n : ℕ) (parent : Option (List ℕ)) (s : Stand) (may : List Stand)
-            → TopFits D.tells (D.state disk.old) n parent self.now s may
+            → (n : ℕ) (asked : HeadsAsked) (s : Stand) (may : List Stand)
+            → TopFits D.tells (D.state disk.old) n asked self.now s may
             → Paints s.cells extent.at extent.count out.old out.new) }
-        ensures gaps { OnOk result ((n : ℕ) (parent : Option (List ℕ)) (s : Stand) (may : List Stand)
-            → TopFits D.tells (D.state disk.old) n parent self.now s may
+        ensures gaps { OnOk result ((n : ℕ) (asked : HeadsAsked) (s : Stand) (may : List Stand)
+            → TopFits D.tells (D.state disk.old) n asked self.now s may
             → AddsGaps (IsHole s.cells) extent.at (extent.at + extent.count) gaps.old gaps.new) }
         ensures size { length out.new ≡ length out.old }
         ensures quiet { Quiet (D.state disk.old) (D.state disk.new) }

@@ -70,7 +70,7 @@ fn two_writes<D: Disk>(alloc: Global, disk: &mut D) -> Result<bool, Fail> {
 
 // Which of the first two sectors a load finds.
 fn held<D: Disk>(rt: &impl Abort, alloc: Global, disk: &mut D) -> Result<(bool, bool), Fail> {
-    let Ok(top) = Top::load(alloc, disk, 0, 8, Some([0; 16])) else {
+    let Ok(top) = Top::load(alloc, disk, 0, 8, true, Some([0; 16])) else {
         return Err(Fail::from("the files were not loaded"));
     };
     let mut out = [0; 1024];
@@ -178,12 +178,35 @@ fn each_failed_call_of_a_load_is_told(rt: HostRuntime) -> Result<(), Fail> {
     two_writes(alloc, &mut disk)?;
     for call in 0..LOADED {
         disk.fail(CallList::from_vec(vec![in alloc; call]?));
-        match Top::load(alloc, &mut disk, 0, 8, None) {
+        match Top::load(alloc, &mut disk, 0, 8, false, None) {
             Ok(_) => assert!(rt; false, "call {call}"),
             Err(fault) => assert_eq!(rt; fault, TopFault::Failed, "call {call}"),
         }
         assert_eq!(rt; held(&rt, alloc, &mut disk)?, (true, true));
     }
+    Ok(())
+}
+
+#[test]
+fn a_top_that_grew_is_loaded_with_its_new_size(rt: HostRuntime) -> Result<(), Fail> {
+    let alloc = rt.alloc();
+    let mut disk = MemDisk::new(alloc);
+    let Ok(mut top) = Top::create(alloc, &mut disk, 0, 8, [0; 16]) else {
+        return Err(Fail::from("no top was made"));
+    };
+    top.grow(12);
+    if top
+        .write(&mut disk, Extent { at: 11, count: 1 }, &[0x61; 512])
+        .is_err()
+    {
+        return Err(Fail::from("the last sector was not written"));
+    }
+    top.flush(&mut disk)?;
+    let Ok(again) = Top::load(alloc, &mut disk, 0, 12, false, None) else {
+        return Err(Fail::from("the files were not loaded"));
+    };
+    assert_eq!(rt; again.sectors(), 12);
+    assert_eq!(rt; again.used(), (1, 1));
     Ok(())
 }
 

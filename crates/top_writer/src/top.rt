@@ -1,5 +1,6 @@
-ghost use Rattle.std.specs.Prelude.{◌≡◌};
-ghost use Rattle.top_writer.specs.View.{table_of, sectors_of, rows_used, sectors_used};
+ghost use Rattle.std.specs.Prelude.{◌≡◌, ◌^◌, ◌≤◌};
+ghost use Rattle.top_writer.specs.Changes.{IsGrown};
+ghost use Rattle.top_writer.specs.View.{view_of, table_of, sectors_of, rows_used, sectors_used};
 
 use gate_mark::Mark;
 use seg_table::SegTable;
@@ -28,6 +29,17 @@ impl Top {
         ensures { result ≡ sectors_of self.now }
     {
         self.sectors
+    }
+
+    /// Lets it be the top of an image of so many sectors, no fewer than before: no cell changes, and those that
+    /// come are holes. It makes no call of the disk, and takes no memory. From then on the heads of its files
+    /// may say fewer sectors than the image has.
+    pub fn grow(&mut self, sectors: u64)
+        requires more { sectors_of self.old ≤ sectors }
+        requires few { sectors ≤ 2 ^ 31 }
+        ensures { IsGrown (view_of self.old) sectors (view_of self.new) }
+    {
+        self.sectors = sectors;
     }
 
     /// The rows that it uses, and the sectors of data.

@@ -4,10 +4,11 @@ use Rattle.sealed_layer.specs.Layers.{LayerIndex}
 use Rattle.image_core.specs.View.{AreLayersOf}
 use Rattle.image_core.specs.Creating.{AreLegal}
 use Rattle.top_writer.proofs.QuietLaws.{quiet_none}
+use Rattle.layer_commands.specs.Flattening.{upper_sectors}
 use Rattle.image_commands.specs.Images.{DiskPort, IsSizeFor}
 use Rattle.image_commands.specs.ImageSteps.{SizeCause}
 use Rattle.image_commands.proofs.OpenLaws.{told-layers-of, stacked}
-use Rattle.image_commands.proofs.MakeLaws.{size-refused, make-refused, made}
+use Rattle.image_commands.proofs.MakeLaws.{sized-as, size-refused, make-refused, made}
 use Rattle.image_commands.proofs.making.make_image.Goals as goal
 
 pub returns-in-Err-size_over-clause-refused : goal.returns-in-Err-size_over-clause-refused
@@ -24,8 +25,9 @@ returns-in-Ok-create-clause-made g c =
     let layers : List LayerIndex = c.in-Ok.layers.items in
     let same : c.from_vec.result ≡ layers = c.from_vec.ensures in
     let view : c.as_slice.result.now ≡ layers = c.as_slice.ensures.value in
-    let size : IsSizeFor c.args.asked (g.S.Shelf.count c.args.shelf.now) c.in-Ok-size_over.sectors =
-    subst (λ (m : ℕ). IsSizeFor c.args.asked m c.in-Ok-size_over.sectors) (ap length view ∙ c.in-Ok.ensures.count) c.in-Ok-size_over.ensures.asked in
+    let size : IsSizeFor c.args.asked (g.S.Shelf.count c.args.shelf.now) (upper_sectors c.from_vec.result) c.in-Ok-size_over.sectors =
+    sized-as c.args.asked (g.S.Shelf.count c.args.shelf.now) c.in-Ok-size_over.sectors c.as_slice.result.now c.from_vec.result (view ∙ sym same) (ap length same ∙ c.in-Ok.ensures.count)
+    c.in-Ok-size_over.ensures.asked in
     made c.args.asked told (g.S.Shelf.count c.args.shelf.now) c.in-Ok-size_over.sectors c.from_vec.result g.D.Disk.tells (g.D.Disk.state c.args.disk) (g.D.Disk.state c.in-Ok-create.image.disk)
     (g.D.Disk.faults c.args.disk) (g.D.Disk.faults c.in-Ok-create.image.disk) c.in-Ok-create.image.parts (stacked told layers c.in-Ok.ensures.told c.in-Ok.ensures.legal) (ap length same ∙ c.in-Ok.ensures.count) c.in-Ok-create.ensures.frame.0 size c.in-Ok-create.ensures.new
     (c.in-Ok-create.ensures.starts told (subst (λ (l : List LayerIndex). IfSome told (λ files. AreLayersOf files l)) (sym same) (told-layers-of told layers c.in-Ok.ensures.told)))
@@ -37,8 +39,8 @@ returns-in-Err-create-clause-refused g c =
     let view : c.as_slice.result.now ≡ layers = c.as_slice.ensures.value in
     let before : DiskPort = record { tells = g.D.Disk.tells; state = g.D.Disk.state c.args.disk; faults = g.D.Disk.faults c.args.disk } in
     let now : DiskPort = record { tells = g.D.Disk.tells; state = g.D.Disk.state c.in-Err-create.disk; faults = g.D.Disk.faults c.in-Err-create.disk } in
-    let size : IsSizeFor c.args.asked (g.S.Shelf.count c.args.shelf.now) c.in-Ok-size_over.sectors =
-    subst (λ (m : ℕ). IsSizeFor c.args.asked m c.in-Ok-size_over.sectors) (ap length view ∙ c.in-Ok.ensures.count) c.in-Ok-size_over.ensures.asked in
+    let size : IsSizeFor c.args.asked (g.S.Shelf.count c.args.shelf.now) (upper_sectors layers) c.in-Ok-size_over.sectors =
+    sized-as c.args.asked (g.S.Shelf.count c.args.shelf.now) c.in-Ok-size_over.sectors c.as_slice.result.now layers view c.in-Ok.ensures.count c.in-Ok-size_over.ensures.asked in
     rw c.create_refusal.ensures (make-refused c.args.asked told (g.S.Shelf.count c.args.shelf.now) c.in-Ok-size_over.sectors (g.S.Shelf.faults c.args.shelf.now) (g.S.Shelf.faults c.read_lowers.new.shelf) before now layers
     c.in-Ok.ensures.told (subst (λ (l : List LayerIndex). AreLegal c.in-Ok-size_over.sectors l) view c.in-Ok-size_over.ensures.legal) size c.in-Err-create.fault
     c.in-Err-create.ensures.exists c.in-Err-create.ensures.cause.failed c.in-Err-create.ensures.untouched c.in-Err-create.ensures.unbegun c.in-Err-create.ensures.kept)

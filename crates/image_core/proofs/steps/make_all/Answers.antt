@@ -4,7 +4,7 @@ use Rattle.std.proofs.lemmas.List.Elements.{All-get_or}
 use Rattle.top_writer.specs.View.{sectors_of}
 use Rattle.image_core.specs.declared.steps.Numbered.{Numbered}
 use Rattle.image_core.specs.Steps.{MayStep}
-use Rattle.image_core.proofs.StepLists.{Went, went-none, went-more, went-goes, went-stands, went-replies, went-standing, went-steps, went-sectors}
+use Rattle.image_core.proofs.StepLists.{Went, went-none, went-more, went-goes, went-stands, went-replies, went-standing, went-steps, went-sectors, may-more}
 use Rattle.image_core.proofs.steps.make_all.Goals as goal
 
 pub loop-numbered-init : goal.loop-numbered-init
@@ -29,7 +29,7 @@ make_next-requires-clause-may g c =
     let sectors = went-sectors g.D.Disk old c.loop-numbered.image c.loop-numbered.numbered-index c.args.list.now c.args.replies.now.items c.loop-numbered.replies.items
     c.loop-numbered.invariant c.requires.standing in
     let s : Numbered = c.numbered-item.result in
-    rw sectors
+    may-more (sectors_of old.parts.top) (sectors_of c.loop-numbered.image.parts.top) s.step sectors
     (subst (λ (t : Numbered). MayStep (sectors_of old.parts.top) t.step) (sym c.numbered-item.is)
     (All-get_or (λ (t : Numbered). MayStep (sectors_of old.parts.top) t.step) c.args.list.now c.loop-numbered.numbered-index s c.loop-numbered-test.true c.requires.may))
 

@@ -9,8 +9,9 @@ use Rattle.std.specs.Io.KnownBytes.{Appends}
 use Rattle.byte_ports.specs.Ports.{AppendsFront}
 use Rattle.flat_image.specs.Stacks.{Legal}
 use Rattle.sealed_layer.specs.Layers.{LayerIndex}
-use Rattle.layer_commands.specs.Flattening.{AreTold, told_flat}
+use Rattle.layer_commands.specs.Flattening.{AreTold, FitIn, told_flat, upper_sectors}
 use Rattle.layer_commands.proofs.Pieces.{IfSome-at}
+use Rattle.layer_commands.proofs.ToldLayers.{stack_fits}
 use Rattle.layer_commands.proofs.ShelfCommands.{flatten_done, flatten_front, flat_refused}
 use Rattle.layer_commands.proofs.commands.flatten_shelf.Goals as goal
 
@@ -28,7 +29,7 @@ returns-clause-done g c =
     (λ (written : F (g.S.Shelf.files c.read_stack.new.shelf)).
     flatten_done files (g.S.Shelf.files c.write_flat.new.shelf) stack c.stack_sectors-sectors.result (g.S.Shelf.count c.args.shelf.now) (g.S.Shelf.count c.write_flat.new.shelf)
     (g.S.Shelf.faults c.args.shelf.now) (g.S.Shelf.faults c.write_flat.new.shelf) old new (g.B.Sink.faults c.args.out.now) (g.B.Sink.faults c.write_flat.new.out)
-    told legal c.stack_sectors-sectors.ensures (subst F c.read_stack.ensures.same.files written))
+    told legal c.stack_sectors-sectors.ensures.value (subst F c.read_stack.ensures.same.files written))
     c.write_flat.ensures.done
 
 pub returns-clause-refused : goal.returns-clause-refused
@@ -47,7 +48,7 @@ returns-clause-refused g c =
     (λ refusal is written only.
     let front = flatten_front files (g.S.Shelf.files c.write_flat.new.shelf) stack c.stack_sectors-sectors.result (g.S.Shelf.count c.args.shelf.now) (g.S.Shelf.count c.write_flat.new.shelf)
     (g.S.Shelf.faults c.args.shelf.now) (g.S.Shelf.faults c.write_flat.new.shelf) old new (g.B.Sink.faults c.args.out.now) (g.B.Sink.faults c.write_flat.new.out)
-    told legal c.stack_sectors-sectors.ensures (subst F c.read_stack.ensures.same.files written) in
+    told legal c.stack_sectors-sectors.ensures.value (subst F c.read_stack.ensures.same.files written) in
     flat_refused files (g.S.Shelf.files c.write_flat.new.shelf) (g.S.Shelf.count c.args.shelf.now) (g.S.Shelf.count c.write_flat.new.shelf)
     (g.S.Shelf.faults c.args.shelf.now) (g.S.Shelf.faults c.write_flat.new.shelf) old new (g.B.Sink.faults c.args.out.now) (g.B.Sink.faults c.write_flat.new.out) _ refusal front only)
     c.write_flat.ensures.front c.write_flat.ensures.only
@@ -58,3 +59,13 @@ write_flat-requires-clause-told g c =
     let told : AreTold list c.in_ok-layers.layers.items =
     IfSome-at (g.S.Shelf.files c.args.shelf.now) (λ list. AreTold list c.in_ok-layers.layers.items) list (sym c.read_stack.ensures.same.files ∙ e) c.in_ok-layers.ensures.told in
     subst (λ (layers : List LayerIndex). AreTold list layers) (sym c.as_slice-stack.ensures.value) told
+
+pub write_flat-requires-clause-sizes : goal.write_flat-requires-clause-sizes
+write_flat-requires-clause-sizes g c =
+    λ list e.
+    let layers = c.in_ok-layers.layers.items in
+    let told : AreTold list layers =
+    IfSome-at (g.S.Shelf.files c.args.shelf.now) (λ list. AreTold list layers) list (sym c.read_stack.ensures.same.files ∙ e) c.in_ok-layers.ensures.told in
+    let fits : FitIn (upper_sectors layers) layers = stack_fits list layers told c.in_ok-layers.ensures.legal.sizes in
+    subst (λ (n : ℕ). FitIn n c.as_slice-stack.result.now) (sym c.stack_sectors-sectors.ensures.value)
+    (subst (λ (l : List LayerIndex). FitIn (upper_sectors l) l) (sym c.as_slice-stack.ensures.value) fits)

@@ -1,9 +1,9 @@
-use Rattle.std.proofs.Common.{◌≡◌, All, ap, subst, sym}
-use Rattle.lsmt_header.specs.declared.head.Head.{Head}
-use Rattle.layer_commands.proofs.ShelfCommands.{legal_first}
+use Rattle.std.proofs.Common.{sym, ◌∙◌}
+use Rattle.layer_commands.proofs.Pieces.{last_sectors, none_last}
 use Rattle.layer_commands.proofs.commands.stack_sectors.Goals as goal
 
-pub returns-in-Some : goal.returns-in-Some
-returns-in-Some c =
-    subst (λ n. All (λ layer. layer.head.sectors ≡ n) c.args.layers.now) (sym (ap (λ (head : Head). head.sectors) c.head.ensures))
-    (legal_first c.args.layers.now c.in-Some.layer.now (sym c.in-Some.ensures.value) c.requires)
+pub returns-in-Some-clause-value : goal.returns-in-Some-clause-value
+returns-in-Some-clause-value c = c.sectors.ensures.value ∙ last_sectors c.args.layers.now c.in-Some.layer.now (sym c.in-Some.ensures.value)
+
+pub returns-in-None-clause-value : goal.returns-in-None-clause-value
+returns-in-None-clause-value c = none_last c.args.layers.now (sym c.in-None.ensures.value)

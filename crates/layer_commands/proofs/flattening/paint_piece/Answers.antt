@@ -1,5 +1,4 @@
-use Rattle.std.proofs.Common.{◌≡◌, ℕ, ◌+◌, ◌*◌, ◌/◌, ◌≤◌, List, length, drop, refl, sym, ap, ◌∙◌, subst, arith, rules}
-use Rattle.std.proofs.lemmas.List.Elements.{All-get_or}
+use Rattle.std.proofs.Common.{◌≡◌, ℕ, ◌*◌, ◌/◌, ◌≤◌, List, length, drop, refl, sym, ap, ◌∙◌, arith, rules}
 use Rattle.layer_shelf.specs.Shelves.{file_at}
 use Rattle.sealed_layer.specs.Layers.{LayerIndex}
 use Rattle.sealed_layer.specs.Painting.{Paints}
@@ -13,11 +12,9 @@ paint_part-requires-clause-whole g c = let size = c.loop-k.invariant.size in ome
 
 pub paint_part-requires-clause-within : goal.paint_part-requires-clause-within
 paint_part-requires-clause-within g c =
-    let layer : LayerIndex = c.index-layers-k.result in
-    let P : LayerIndex → Type 0 = λ layer. c.args.at + c.args.count ≤ layer.head.sectors in
-    let here : P layer = subst P (sym c.index-layers-k.is) (All-get_or P c.args.layers.now c.loop-k.k layer c.loop-k-test.true c.requires.within) in
     let size = c.loop-k.invariant.size in
-    omega (arith, here, size)
+    let within = c.requires.within in
+    omega (arith, size, within)
 
 pub paint_part-requires-clause-told : goal.paint_part-requires-clause-told
 paint_part-requires-clause-told g c =

@@ -5,7 +5,7 @@ use Rattle.byte_ports.specs.Ports.{AppendsFront}
 use Rattle.layer_commands.specs.Flattening.{flat_part, told_flat}
 use Rattle.sector_extent.specs.CauseLaws.{calm_value}
 use Rattle.layer_commands.specs.declared.refusal.Refusal.TheVariants.{ShelfFault, SinkFault}
-use Rattle.layer_commands.proofs.Charged.{charges_err, stays_ok}
+use Rattle.layer_commands.proofs.Charged.{charges_err}
 use Rattle.layer_commands.proofs.Pieces.{IfSome-at, IfSome-each, piece_done, piece_front, all_done}
 use Rattle.layer_commands.proofs.flattening.write_flat.Goals as goal
 
@@ -21,7 +21,7 @@ returns-in_err-write_piece-clause-front g c =
     let layers = c.args.layers.now in
     let p = err_from_is_err_and c.from_residual-in_err-write_piece.result c.from_residual-in_err-write_piece.ensures.1 in
     rw p.1 (IfSome-each (g.S.Shelf.files c.args.shelf.now) (λ files e.
-    piece_front first second third n at count files layers (c.requires.told files e) within
+    piece_front first second third n at count files layers (c.requires.told files e) (c.requires.sizes files e) within
     (IfSome-at (g.S.Shelf.files c.args.shelf.now) (λ files. Appends first second (take (512 * at) (told_flat n files layers))) files e c.loop-at.invariant.written)
     (IfSome-at (g.S.Shelf.files c.loop-at.shelf) (λ files. AppendsFront second third (flat_part files layers at count)) files (c.loop-at.invariant.files ∙ e) c.in_err-write_piece.ensures.front)))
 
@@ -37,7 +37,7 @@ loop-at-preserved g c =
     let layers = c.args.layers.now in
     record {
       written = IfSome-each (g.S.Shelf.files c.args.shelf.now) (λ files e.
-          piece_done first second third n at count files layers (c.requires.told files e) within
+          piece_done first second third n at count files layers (c.requires.told files e) (c.requires.sizes files e) within
           (IfSome-at (g.S.Shelf.files c.args.shelf.now) (λ files. Appends first second (take (512 * at) (told_flat n files layers))) files e c.loop-at.invariant.written)
           (IfSome-at (g.S.Shelf.files c.loop-at.shelf) (λ files. Appends second third (flat_part files layers at count)) files (c.loop-at.invariant.files ∙ e) c.in_ok-write_piece.ensures.done));
       within = within;
@@ -56,7 +56,7 @@ returns-clause-done g c =
     let at : ℕ = c.loop-at.at in
     let layers = c.args.layers.now in
     IfSome-each (g.S.Shelf.files c.args.shelf.now) (λ files e.
-    all_done first second n at files layers (c.requires.told files e) c.loop-at-test.false
+    all_done first second n at files layers (c.requires.told files e) (c.requires.sizes files e) c.loop-at-test.false
     (IfSome-at (g.S.Shelf.files c.args.shelf.now) (λ files. Appends first second (take (512 * at) (told_flat n files layers))) files e c.loop-at.invariant.written))
 
 pub returns-in_err-write_piece-clause-shelf_cause : goal.returns-in_err-write_piece-clause-shelf_cause

@@ -1,53 +1,52 @@
-use Rattle.std.proofs.Common.{◌≡◌, ℕ, List, ◌+◌, ◌-◌, ◌<◌, ◌≤◌, length, map, ap, ◌∙◌, arith}
-use Rattle.std.proofs.lemmas.List.{length-map}
-use Rattle.std.specs.Arc.{arc_value}
-use Rattle.merged_index.specs.declared.piece.PieceWhat.TheVariants.{Hole}
-use Rattle.merged_index.specs.Cells.{NumberedRows, what_of}
-use Rattle.merged_index.specs.Pieces.{onward}
-use Rattle.merged_index.proofs.CellLaws.{shown_at}
-use Rattle.merged_index.proofs.RunSteps.{passed, hit, hides, one_hole, edge_of}
+use Rattle.std.proofs.Common.{◌≡◌, ◌+◌, ◌<◌, ◌≤◌, take, subst, arith}
+use Rattle.std.proofs.lemmas.List.{take_all}
+use Rattle.merged_index.specs.declared.segment.Segment.{Segment}
+use Rattle.merged_index.specs.Segments.{segments_end}
+use Rattle.merged_index.proofs.SegmentLaws.{cell_at-behind, cell_at-between, segment_says, end-segment, segment_at}
 use Rattle.merged_index.proofs.search.run_from.Goals as goal
 
-pub loop-number-preserved : goal.loop-number-preserved
-loop-number-preserved g c =
-    let layers = c.args.layers.now in
-    let xs : List NumberedRows = map arc_value layers in
-    let n = c.loop-number.number in
-    let x = c.deref.result.now in
-    let run = c.layer_run-run.result in
-    let one : n ≡ (n - 1) + 1 = omega arith in
-    let within : n - 1 < length layers = omega arith in
-    let below : n - 1 < length xs = omega (arith, within, length-map layers arc_value) in
-    let is = shown_at arc_value layers (n - 1) c.index-layers-number.result x within c.index-layers-number.is c.deref.ensures in
-    let hole : (p : ℕ) → c.args.from ≤ p → p < run.until → what_of x.number x.rows p ≡ Hole =
-    λ p low high. c.layer_run-run.ensures.same p low high ∙ ap (λ w. onward w (p - c.args.from)) c.in-Hole.is in (
-      c.layer_run-run.ensures.some,
-      omega (arith, c.layer_run-run.ensures.within),
-      passed xs (n - 1) n c.args.from c.loop-number.until run.until x one below is c.loop-number.invariant.2 c.layer_run-run.ensures.within hole,
-      λ p low high. one_hole xs (n - 1) n p x one below is (c.loop-number.invariant.3 p low (omega (arith, c.layer_run-run.ensures.within))) (hole p low high),
-      edge_of xs (n - 1) n c.args.from c.args.end c.loop-number.until run.until x one below is c.layer_run-run.ensures.some c.layer_run-run.ensures.within
-          c.loop-number.invariant.3 c.loop-number.invariant.4 c.layer_run-run.ensures.edge,
-      omega (arith, c.layer_run-run.ensures.counted),
-    )
+pub returns-then-next-len-clause-same : goal.returns-then-next-len-clause-same
+returns-then-next-len-clause-same g c sector low high =
+    let ss = c.args.segments.now in
+    let all : take c.args.next ss ≡ ss = take_all c.args.next ss (omega arith) in
+    let end : segments_end 0 ss ≤ c.args.from = subst (λ rs. segments_end 0 rs ≤ c.args.from) all c.requires.before in
+    cell_at-behind 0 ss sector c.len.ensures.sound (omega arith)
 
-pub returns-in_default : goal.returns-in_default
-returns-in_default g c =
-    let layers = c.args.layers.now in
-    let xs : List NumberedRows = map arc_value layers in
-    let n = c.loop-number.number in
-    let x = c.deref.result.now in
-    let run = c.layer_run-run.result in
-    let one : n ≡ (n - 1) + 1 = omega arith in
-    let within : n - 1 < length layers = omega arith in
-    let below : n - 1 < length xs = omega (arith, within, length-map layers arc_value) in
-    let is = shown_at arc_value layers (n - 1) c.index-layers-number.result x within c.index-layers-number.is c.deref.ensures in
-    record {
-      some = c.layer_run-run.ensures.some;
-      within = omega (arith, c.layer_run-run.ensures.within);
-      same = hit xs (n - 1) n c.args.from c.loop-number.until run.until x run.what one below is c.loop-number.invariant.2 c.layer_run-run.ensures.within
-          c.layer_run-run.ensures.same (hides run.what c.in_default.not-Hole);
-      fits = c.layer_run-run.ensures.fits;
-      edge = edge_of xs (n - 1) n c.args.from c.args.end c.loop-number.until run.until x one below is c.layer_run-run.ensures.some c.layer_run-run.ensures.within
-          c.loop-number.invariant.3 c.loop-number.invariant.4 c.layer_run-run.ensures.edge;
-      counted = omega (arith, c.layer_run-run.ensures.counted);
-    }
+pub returns-then-from-segment-clause-same : goal.returns-then-from-segment-clause-same
+returns-then-from-segment-clause-same g c sector low high =
+    let ss = c.args.segments.now in
+    let s = c.probe-segment.result.now in
+    let begins : sector < s.at = omega (arith, c.min.ensures) in
+    cell_at-between 0 ss c.args.next s sector c.len.ensures.sound (omega arith) (omega (arith, c.requires.before))
+    (subst (λ (r : Segment). sector < r.at) c.probe-segment.ensures.segment begins)
+
+pub returns-then-end-behind-clause-same : goal.returns-then-end-behind-clause-same
+returns-then-end-behind-clause-same g c sector low high =
+    let ss = c.args.segments.now in
+    let s = c.probe-segment.result.now in
+    let begins : s.at ≤ sector = omega arith in
+    let ends : sector < s.at + s.count = omega arith in
+    segment_says ss c.args.next s c.args.from sector c.what_at-what.result c.len.ensures.sound (omega arith) c.probe-segment.ensures.segment c.if-from-segment.false low begins ends c.what_at-what.ensures
+
+pub returns-clause-same : goal.returns-clause-same
+returns-clause-same g c sector low high =
+    let ss = c.args.segments.now in
+    let s = c.probe-segment.result.now in
+    let begins : s.at ≤ sector = omega arith in
+    let ends : sector < s.at + s.count = omega arith in
+    segment_says ss c.args.next s c.args.from sector c.what_at-what.result c.len.ensures.sound (omega arith) c.probe-segment.ensures.segment c.if-from-segment.false low begins ends c.what_at-what.ensures
+
+pub returns-clause-before : goal.returns-clause-before
+returns-clause-before g c =
+    let ss = c.args.segments.now in
+    let s = c.probe-segment.result.now in
+    let last : segments_end 0 (take (c.args.next + 1) ss) ≡ s.at + s.count = end-segment 0 ss c.args.next s (omega arith) c.probe-segment.ensures.segment in
+    omega (arith, last)
+
+pub returns-clause-behind : goal.returns-clause-behind
+returns-clause-behind g c d below some =
+    let ss = c.args.segments.now in
+    let s = c.probe-segment.result.now in
+    let last : segments_end 0 (take (c.args.next + 1) ss) ≡ s.at + s.count = end-segment 0 ss c.args.next s (omega arith) c.probe-segment.ensures.segment in
+    let is = segment_at 0 ss (c.args.next + 1) d c.len.ensures.sound below in
+    omega (arith, last, is.order, is.some)

@@ -1,4 +1,4 @@
-use Rattle.std.proofs.Common.{◌≡◌, ℕ, ◌+◌, ◌∷◌, ◌++◌, take, drop, ap, ◌∙◌, arith}
+use Rattle.std.proofs.Common.{◌+◌, ◌∷◌, ◌++◌, take, drop, ap, ◌∙◌, arith}
 use Rattle.seg_table.proofs.LeafLaws.{set-parts}
 use Rattle.seg_table.proofs.change.exchange.Goals as goal
 

@@ -1,4 +1,4 @@
-use Rattle.std.proofs.Common.{◌≡◌, ℕ, ◌+◌, ◌-◌, [], ◌++◌, List, length, take, drop, get_or, ap, ◌∙◌}
+use Rattle.std.proofs.Common.{◌≡◌, ◌-◌, [], ◌++◌, List, length, take, drop, get_or, ap, ◌∙◌}
 use Rattle.std.proofs.lemmas.List.{take_rest, get_or_default}
 use Rattle.seg_table.specs.declared.segment.Segment.{Segment}
 use Rattle.seg_table.proofs.PutLaws.{split-sizes, split-same}

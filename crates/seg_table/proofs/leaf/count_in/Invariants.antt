@@ -1,4 +1,4 @@
-use Rattle.std.proofs.Common.{◌≡◌, ◌+◌, length, take}
+use Rattle.std.proofs.Common.{◌≡◌, length, take}
 use Rattle.seg_table.specs.Segments.{joined}
 use Rattle.seg_table.proofs.leaf.count_in.Given as goal
 

@@ -1,9 +1,9 @@
-use Rattle.std.proofs.Common.{◌≡◌, ℕ, zero, ◌+◌, ◌-◌, ◌*◌, ◌^◌, ◌<◌, ◌≤◌, [], List, length, take, get_or, sym, ap, subst, ◌∙◌, arith}
+use Rattle.std.proofs.Common.{◌≡◌, ℕ, ◌+◌, ◌-◌, ◌<◌, ◌≤◌, [], List, length, take, get_or, sym, subst, ◌∙◌, arith}
 use Rattle.std.proofs.lemmas.List.{get_or_default}
 use Rattle.std.proofs.lemmas.List.Elements.{All-get_or}
 use Rattle.seg_table.specs.declared.segment.Segment.{Segment}
 use Rattle.seg_table.specs.Pieces.{end_of}
-use Rattle.seg_table.specs.Segments.{IsLeaf, IsRest, first_of, joined, left_at, segments_end}
+use Rattle.seg_table.specs.Segments.{IsLeaf, IsRest, first_of, joined, segments_end}
 use Rattle.seg_table.proofs.LeafLaws.{rest-all, rest-search, more-segments, looks-bound}
 use Rattle.seg_table.proofs.search.first_past.Goals as goal
 

@@ -1,4 +1,4 @@
-use Rattle.std.proofs.Common.{◌+◌, ◌-◌, ◌<◌, ◌≤◌, length, [], slice_index_or}
+use Rattle.std.proofs.Common.{◌-◌, ◌<◌, ◌≤◌, length, [], slice_index_or}
 use Rattle.seg_table.specs.Segments.{first_of}
 use Rattle.seg_table.proofs.Halving.{Halved}
 use Rattle.seg_table.proofs.search.leaves_before.Given as goal

@@ -1,5 +1,5 @@
-use Rattle.std.proofs.Common.{◌≡◌, ◌+◌, ◌∙◌, arith}
-use Rattle.seg_table.specs.Segments.{joined, left_at}
+use Rattle.std.proofs.Common.{◌∙◌, arith}
+use Rattle.seg_table.specs.Segments.{joined}
 use Rattle.seg_table.proofs.RestLaws.{unset-before, piece-next, piece-unparted, piece-rest}
 use Rattle.seg_table.proofs.search.piece_at.Goals as goal
 

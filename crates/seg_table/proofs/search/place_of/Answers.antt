@@ -1,4 +1,4 @@
-use Rattle.std.proofs.Common.{◌≡◌, [], List, length, get_or, ap, ◌∙◌, arith}
+use Rattle.std.proofs.Common.{[], List, length, ap, ◌∙◌, arith}
 use Rattle.std.proofs.lemmas.List.{get_or_default}
 use Rattle.seg_table.specs.declared.segment.Segment.{Segment}
 use Rattle.seg_table.proofs.LeafLaws.{left-next, place-leaf, place-next}

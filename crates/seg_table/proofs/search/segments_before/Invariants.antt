@@ -1,4 +1,4 @@
-use Rattle.std.proofs.Common.{◌+◌, ◌-◌, ◌<◌, ◌≤◌, length, take, slice_index_or}
+use Rattle.std.proofs.Common.{◌-◌, ◌<◌, ◌≤◌, length, take, slice_index_or}
 use Rattle.seg_table.specs.declared.segment.Segment.{Segment}
 use Rattle.seg_table.specs.Pieces.{end_of}
 use Rattle.seg_table.specs.Segments.{segments_end}

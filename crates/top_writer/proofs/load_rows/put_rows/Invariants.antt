@@ -8,7 +8,6 @@ invariant-loop-bytes l = record {
   more : l.fn.number ≤ l.number;
   left : l.left ≡ drop (16 * (l.number - l.fn.number)) l.fn.piece;
   count : length l.left + 16 * (l.number - l.fn.number) ≡ length l.fn.piece;
-  room : l.table.spare + (l.number - l.fn.number) ≡ l.fn.table.spare;
   puts : Puts l.sectors l.filled l.fn.piece l.fn.table.segments l.table.segments (l.number - l.fn.number);
 }
 

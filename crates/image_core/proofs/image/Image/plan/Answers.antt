@@ -5,7 +5,7 @@ use Rattle.flat_image.specs.History.{now}
 use Rattle.flat_image.specs.Left.{stand}
 use Rattle.top_writer.specs.Gaps.{IsHole, AreGaps}
 use Rattle.top_writer.proofs.QuietLaws.{quiet_none}
-use Rattle.image_core.specs.Shows.{epoch_of, parent_asked}
+use Rattle.image_core.specs.Shows.{epoch_of, heads_asked}
 use Rattle.image_core.specs.Seen.{seen}
 use Rattle.image_core.proofs.StepGoes.{goes-not, reads-noted, reads-failed, reads-refused}
 use Rattle.image_core.proofs.Planned.{plan-reads, paints-upper, gaps-upper}
@@ -21,7 +21,7 @@ pub returns-in-Ok-read_part-clause-bytes : goal.returns-in-Ok-read_part-clause-b
 returns-in-Ok-read_part-clause-bytes g c told base history k =
     let b = now base history in
     paints-upper (seen g.D.Disk c.args.self.now) base history c.args.extent.at c.args.extent.count c.args.out.now c.read_part.new.out k
-    (c.in-Ok-read_part.ensures.bytes told b.sectors (parent_asked (epoch_of b) b.lowers) (stand b) k.tops k.fits.top)
+    (c.in-Ok-read_part.ensures.bytes told b.sectors (heads_asked k.fits.exact (epoch_of b) b.lowers) (stand b) k.tops k.fits.top)
 
 pub returns-in-Ok-read_part-clause-image : goal.returns-in-Ok-read_part-clause-image
 returns-in-Ok-read_part-clause-image g c told base history k =
@@ -34,7 +34,7 @@ returns-in_default-clause-quiet g c = quiet_none (g.D.Disk.state c.args.self.now
 pub returns-in-Ok-read_part-clause-gaps : goal.returns-in-Ok-read_part-clause-gaps
 returns-in-Ok-read_part-clause-gaps g c base history k =
     let b = now base history in
-    let adds = c.in-Ok-read_part.ensures.gaps b.sectors (parent_asked (epoch_of b) b.lowers) (stand b) k.tops k.fits.top in
+    let adds = c.in-Ok-read_part.ensures.gaps b.sectors (heads_asked k.fits.exact (epoch_of b) b.lowers) (stand b) k.tops k.fits.top in
     let empty = c.from_vec.ensures ∙ c.new.ensures.items in
     gaps-upper (seen g.D.Disk c.args.self.now) base history c.args.extent.at (c.args.extent.at + c.args.extent.count) c.read_part.new.gaps k
     (subst (AreGaps (IsHole b.top) c.args.extent.at (c.args.extent.at + c.args.extent.count)) (sym (adds.behind ∙ ap (λ (l : List Extent). l ++ adds.added) empty)) adds.gaps)

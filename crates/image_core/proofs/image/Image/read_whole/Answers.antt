@@ -6,7 +6,7 @@ use Rattle.flat_image.specs.Left.{stand}
 use Rattle.top_writer.specs.Gaps.{IsHole, AreGaps}
 use Rattle.std.proofs.lemmas.Option.{IfSome_then}
 use Rattle.merged_index.specs.Cells.{cells_of}
-use Rattle.image_core.specs.Shows.{epoch_of, parent_asked}
+use Rattle.image_core.specs.Shows.{epoch_of, heads_asked}
 use Rattle.image_core.specs.Pieces.{SnapshotView, IsSnapshotOf}
 use Rattle.image_core.specs.Whole.{sectors_by, AreFilled}
 use Rattle.image_core.specs.Seen.{seen}
@@ -34,7 +34,7 @@ fill-requires-clause-there g c =
     let history = c.requires.standing.1 in
     let k = c.requires.standing.2 in
     let b = now base history in
-    let adds = c.in-Ok.ensures.gaps b.sectors (parent_asked (epoch_of b) b.lowers) (stand b) k.tops k.fits.top in
+    let adds = c.in-Ok.ensures.gaps b.sectors (heads_asked k.fits.exact (epoch_of b) b.lowers) (stand b) k.tops k.fits.top in
     let empty = c.from_vec-gaps.ensures ∙ c.new.ensures.items in
     let are : AreGaps (IsGap b) c.args.extent.at (c.args.extent.at + c.args.extent.count) c.as_slice.result.now =
     gaps-upper (seen g.D.Disk c.args.self.now) base history c.args.extent.at (c.args.extent.at + c.args.extent.count) c.as_slice.result.now k
@@ -49,7 +49,7 @@ pub returns-in-Ok-fill-clause-bytes : goal.returns-in-Ok-fill-clause-bytes
 returns-in-Ok-fill-clause-bytes g c told =
     IfSome_then (g.S.Shelf.files c.args.shelf.now) c.in-Ok-fill.ensures.filled (λ files filled base history k lows.
     let b = now base history in
-    let adds = c.in-Ok.ensures.gaps b.sectors (parent_asked (epoch_of b) b.lowers) (stand b) k.tops k.fits.top in
+    let adds = c.in-Ok.ensures.gaps b.sectors (heads_asked k.fits.exact (epoch_of b) b.lowers) (stand b) k.tops k.fits.top in
     let empty = c.from_vec-gaps.ensures ∙ c.new.ensures.items in
     let are : AreGaps (IsGap b) c.args.extent.at (c.args.extent.at + c.args.extent.count) c.as_slice.result.now =
     gaps-upper (seen g.D.Disk c.args.self.now) base history c.args.extent.at (c.args.extent.at + c.args.extent.count) c.as_slice.result.now k
@@ -61,13 +61,13 @@ returns-in-Ok-fill-clause-bytes g c told =
     (subst (λ (l : List (List ℕ)). AreFilled (sectors_by l (cells_of s.index)) c.args.extent.at c.as_slice.result.now c.read_part.new.out c.fill.new.out) (sym lows) filled)
     c.args.out.now c.requires.size (c.fill.auto.out ∙ (c.read_part.ensures.size ∙ c.requires.size))
     (paints-upper (seen g.D.Disk c.args.self.now) base history c.args.extent.at c.args.extent.count c.args.out.now c.read_part.new.out k
-    (c.in-Ok.ensures.bytes told b.sectors (parent_asked (epoch_of b) b.lowers) (stand b) k.tops k.fits.top)))
+    (c.in-Ok.ensures.bytes told b.sectors (heads_asked k.fits.exact (epoch_of b) b.lowers) (stand b) k.tops k.fits.top)))
 
 pub returns-in-Ok-fill-clause-holes : goal.returns-in-Ok-fill-clause-holes
 returns-in-Ok-fill-clause-holes g c =
     IfSome_then (g.S.Shelf.files c.args.shelf.now) c.in-Ok-fill.ensures.filled (λ files filled base history k lows.
     let b = now base history in
-    let adds = c.in-Ok.ensures.gaps b.sectors (parent_asked (epoch_of b) b.lowers) (stand b) k.tops k.fits.top in
+    let adds = c.in-Ok.ensures.gaps b.sectors (heads_asked k.fits.exact (epoch_of b) b.lowers) (stand b) k.tops k.fits.top in
     let empty = c.from_vec-gaps.ensures ∙ c.new.ensures.items in
     let are : AreGaps (IsGap b) c.args.extent.at (c.args.extent.at + c.args.extent.count) c.as_slice.result.now =
     gaps-upper (seen g.D.Disk c.args.self.now) base history c.args.extent.at (c.args.extent.at + c.args.extent.count) c.as_slice.result.now k

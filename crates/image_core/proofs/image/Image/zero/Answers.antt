@@ -15,7 +15,7 @@ returns-in-Ok-clause-goes g c =
     (with_zero c.args.extent.at c.args.extent.count) as_before (Zero c.args.extent.at c.args.extent.count) (record { manifest = refl; lowers = refl; snapshot = refl }) refl refl
     (zero_goes g.D.Disk.tells (g.D.Disk.state c.args.self.now.disk) c.args.self.now.parts.top c.zero.new.self c.args.extent c.requires.within c.in-Ok.ensures.ok
     (λ files left. g.met.D.Disk.now_at c.args.self.now.disk files left))
-    (λ b. refl) (λ b is. omega (arith, is, c.requires.within))
+    refl (λ b. refl) (λ b is. omega (arith, is, c.requires.within))
     (counts-clean (g.D.Disk.faults c.args.self.now.disk) (g.D.Disk.faults c.args.self.now.disk) (Zero c.args.extent.at c.args.extent.count) refl (omega arith))
     (keeps-before (Zero c.args.extent.at c.args.extent.count) refl)
 

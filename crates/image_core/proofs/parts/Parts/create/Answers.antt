@@ -20,7 +20,7 @@ returns-in-Ok-format-clause-stands g c files are =
     (subst (λ l. IsSnapshotOf (arc_value c.in-Ok.snapshot) l []) c.as_slice.ensures c.in-Ok.ensures)
     c.parent_of-parent.ensures
     c.in-Ok-create.ensures.fits c.in-Ok-create.ensures.is.0 c.in-Ok-create.ensures.is.2
-    c.format.ensures.any_moment.others c.in-Ok-format.ensures.mark.0 c.in-Ok-format.ensures.mark.1 c.in-Ok-format.ensures.kept c.in-Ok-format.ensures.bodies c.new_body.ensures.names
+    c.format.ensures.any_moment.others c.in-Ok-format.ensures.mark.0 c.in-Ok-format.ensures.mark.1 c.in-Ok-format.ensures.kept c.in-Ok-format.ensures.bodies c.new_body.ensures
 
 pub returns-in-Ok-format-clause-cause : goal.returns-in-Ok-format-clause-cause
 returns-in-Ok-format-clause-cause g c =

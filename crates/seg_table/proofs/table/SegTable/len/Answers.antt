@@ -1,4 +1,4 @@
-use Rattle.std.proofs.Common.{◌≡◌, ℕ, ◌^◌, ◌≤◌, length, sym, ap, subst, ◌∙◌, arith}
+use Rattle.std.proofs.Common.{◌^◌, ◌≤◌, length, sym, subst, arith}
 use Rattle.seg_table.specs.Segments.{joined}
 use Rattle.seg_table.proofs.SortedLaws.{few-segments}
 use Rattle.seg_table.proofs.table.SegTable.len.Goals as goal

@@ -17,8 +17,8 @@ returns-in_err-store-clause-err g c =
 pub set-requires-clause-kept : goal.set-requires-clause-kept
 set-requires-clause-kept g c =
     let fit = c.requires.fits in
-    stored_mark g.D.Disk.tells (g.D.Disk.state c.store.new.disk) fit.n fit.parent (view_of c.store.new.self) fit.stand fit.may
-    (c.in_ok-store.ensures.stored fit.n fit.parent fit.stand fit.may fit.fits)
+    stored_mark g.D.Disk.tells (g.D.Disk.state c.store.new.disk) fit.n fit.asked (view_of c.store.new.self) fit.stand fit.may
+    (c.in_ok-store.ensures.stored fit.n fit.asked fit.stand fit.may fit.fits)
 
 pub returns-in_err-set-clause-err : goal.returns-in_err-set-clause-err
 returns-in_err-set-clause-err g c =

@@ -1,0 +1,9 @@
+pub mod ControlLaws
+pub mod ControlTable
+pub mod Controls
+pub mod Examples
+pub mod Lines
+pub mod PlainControls
+pub mod Reading
+pub mod Replies
+pub mod Sessions
