@@ -1,17 +1,16 @@
 -- The files of a shelf over a link that serves them.
-use Rattle.std.proofs.Common.{◌≡◌, ℕ, zero, suc, ◌+◌, ◌-◌, ◌^◌, ◌<◌, ◌≤◌, inl, inr, Bool, true, false, cond, List, [], ◌∷◌, length, take, drop, replicate, get_or, set, refl, sym, ap, subst, ◌∙◌, arith, Option, Some, None}
-use Rattle.std.specs.Prelude.{nat_le, nat_lt, if◌then◌else◌, ◌==◌, IfSome, IfOk, OnOk, Result, Ok, Err, slice_index_or}
+use Rattle.std.proofs.Common.{◌≡◌, ℕ, zero, suc, ◌+◌, ◌-◌, ◌^◌, ◌<◌, ◌≤◌, Bool, true, false, List, [], ◌∷◌, length, take, drop, replicate, get_or, set, refl, sym, ap, subst, ◌∙◌, arith, Option, Some, None}
+use Rattle.std.specs.Prelude.{nat_le, nat_lt, if◌then◌else◌, ◌==◌, IfSome, IfOk, Result, Ok, slice_index_or}
 use Rattle.std.proofs.lemmas.List.{get_or-set_same, get_or-set_other}
 use Rattle.std.proofs.lemmas.Bool.{ltb-true, leb-true, eqb-true, eqb-false}
 use Rattle.http_range.specs.declared.reason.FetchFault.{FetchFault}
 use Rattle.http_range.specs.Fetching.{FetcherState}
 use Rattle.http_range.specs.Links.{Blob}
-use Rattle.http_range.specs.RangeReplies.{range_in}
 use Rattle.http_range.specs.Requests.{TargetTexts}
 use Rattle.http_range.specs.Serving.{IsFileOf, IsRangeOf, IsServed, blob_at}
 use Rattle.layer_shelf.specs.Shelves.{file_at}
 use Rattle.range_shelf.specs.RangeLaws.{if_some, parts, told_by}
-use Rattle.range_shelf.specs.RangeShelves.{AreKnown, FetchesRight, HasServed, IsRight, RangeShelfState, file_for, files_among, files_by, files_told, with_file}
+use Rattle.range_shelf.specs.RangeShelves.{AreKnown, FetchesRight, HasServed, IsRight, RangeShelfState, file_for, files_among, files_by, files_told}
 
 chosen : (a b : Bool) (x y : List ℕ) → (if a then (if b then Some x else None) else None) ≡ Some y → (a ≡ true) × (b ≡ true) × (x ≡ y)
 chosen true true x y is = (refl, refl, cc is)

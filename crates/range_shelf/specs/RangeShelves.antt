@@ -1,9 +1,9 @@
 -- A shelf whose files are fetched by range requests.
-use Rattle.std.specs.Prelude.{◌≡◌, ℕ, ◌+◌, ◌-◌, ◌^◌, ◌<◌, ◌≤◌, Bool, nat_le, nat_lt, if◌then◌else◌, List, [], ◌∷◌, length, slice_index_or, Option, Some, None, Result, Ok, Err, is_err, MatchOption, IfSome, IfOk}
+use Rattle.std.specs.Prelude.{◌≡◌, ℕ, ◌+◌, ◌^◌, ◌<◌, ◌≤◌, nat_le, nat_lt, if◌then◌else◌, List, [], ◌∷◌, length, slice_index_or, Option, Some, None, Result, Ok, Err, IfSome, IfOk}
 use Rattle.http_range.specs.declared.reason.FetchFault.{FetchFault}
 use Rattle.http_range.specs.Requests.{TargetTexts, request_text}
 use Rattle.http_range.specs.Fetching.{FetcherState, Fetches}
-use Rattle.http_range.specs.Links.{Blob, LinkState}
+use Rattle.http_range.specs.Links.{Blob}
 use Rattle.http_range.specs.Serving.{IsRangeOf, IsServed, blob_at}
 use Rattle.layer_shelf.specs.Shelves.{file_at}
 

@@ -1,5 +1,5 @@
 -- The target that was read is the one of that number.
-use Rattle.std.proofs.Common.{◌≡◌, ◌+◌, ◌-◌, List, length, get_or, sym, ap, ◌∙◌, subst}
+use Rattle.std.proofs.Common.{◌≡◌, ◌+◌, ◌-◌, List, length, get_or, ap, ◌∙◌, subst}
 use Rattle.std.proofs.lemmas.List.{get_or_default}
 use Rattle.http_range.specs.Requests.{TargetTexts}
 use Rattle.range_shelf.specs.RangeShelves.{FetchesRange}

@@ -1,5 +1,5 @@
 -- The fetch was one of byte 0 of the shelf's own target.
-use Rattle.std.proofs.Common.{rules, ◌≡◌, ℕ, ◌<◌, length, set, refl, subst, ◌∙◌, arith, Some, Option}
+use Rattle.std.proofs.Common.{rules, ◌≡◌, ◌<◌, length, set, refl, subst, ◌∙◌, Some}
 use Rattle.std.specs.Prelude.{Ok, Err, IfSome, slice_index_or}
 use Rattle.std.proofs.lemmas.List.{length-set}
 use Rattle.std.proofs.lemmas.List.Elements.{All-set}

@@ -1,5 +1,5 @@
 -- The fetch was one of the shelf's own target.
-use Rattle.std.proofs.Common.{rules, ◌≡◌, ℕ, ◌+◌, ◌-◌, ◌<◌, ◌≤◌, length, take, drop, refl, ap, ◌∙◌, subst, arith}
+use Rattle.std.proofs.Common.{rules, ◌≡◌, ◌+◌, ◌-◌, ◌<◌, ◌≤◌, length, take, drop, refl, ap, ◌∙◌, subst}
 use Rattle.std.specs.Prelude.{Ok, Err, IfSome, slice_index_or}
 use Rattle.layer_shelf.specs.Shelves.{file_at}
 use Rattle.range_shelf.specs.RangeShelves.{RangeShelfState, FetchesRange, files_told}
