@@ -37,7 +37,8 @@ pub fn history_laws()
 
 /// What the canonical file of a sheet is.
 pub fn canonical_laws()
-    ensures file { (n : ℕ) (uuid parent : List ℕ) (below : ℕ) (sheet : List Cell) → FileIsLayer n uuid parent below sheet }
+    ensures file { (n : ℕ) (uuid parent : List ℕ) (below : ℕ) (sheet : List Cell)
+        → FileIsLayer n uuid parent below sheet }
     ensures stands { (uuid parent : List ℕ) (below : ℕ) (sheet : List Cell) → HeadStands uuid parent below sheet }
     ensures runs { (sheet : List Cell) → StretchesAreLongest sheet }
     ensures joined { (sheet : List Cell) → JoinedAreLongest sheet }

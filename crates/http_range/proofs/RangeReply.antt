@@ -1,21 +1,20 @@
 -- The reply of a server that has the file is a good one.
-use Rattle.std.proofs.Common.{◌≡◌, ℕ, zero, suc, ◌+◌, ◌-◌, ◌*◌, ◌^◌, ◌<◌, ◌≤◌, Bool, true, false, IsTrue, List, [], ◌∷◌, ◌++◌, length, take, drop, get_or, reverse, map, refl, sym, ap, subst, ◌∙◌, arith, append_assoc, Some, None, Option}
-use Rattle.std.specs.Prelude.{Ok, Err, nat_eq, codes, decimal, All, if◌then◌else◌, not, ◌&&◌, ◌||◌, ◌==◌, nat_le, nat_lt, option_map, option_and_then}
+use Rattle.std.proofs.Common.{◌≡◌, ℕ, ◌+◌, ◌-◌, ◌^◌, ◌<◌, ◌≤◌, Bool, true, false, IsTrue, List, [], ◌∷◌, ◌++◌, length, take, drop, reverse, refl, sym, ap, subst, ◌∙◌, arith, append_assoc, Some, Option}
+use Rattle.std.specs.Prelude.{Ok, Err, nat_eq, codes, decimal, not, ◌&&◌, ◌||◌, ◌==◌, nat_le, nat_lt, option_map, option_and_then}
 use Rattle.std.specs.List.{list_all}
 use Rattle.std.specs.Char.{is_ascii_digit}
 use Rattle.std.specs.Str.Parse.{AllDigits, digits_value}
-use Rattle.std.proofs.lemmas.Bool.{cond-true, cond-false, le-leb, le-ltb, lt-ltb, eq-eqb, eqb-true, ne_eqb, and_from, and_parts}
+use Rattle.std.proofs.lemmas.Bool.{cond-true, cond-false, le-leb, lt-ltb, eq-eqb, eqb-true, ne_eqb, and_from, and_parts}
 use Rattle.std.proofs.lemmas.Fmt.{decimal_is_IsNumeral, length-decimal-le}
 use Rattle.std.proofs.lemmas.Str.Parse.{tells_digits}
 use Rattle.std.proofs.lemmas.List.{length-append, length-take-le, length-drop, length-reverse, reverse-append, append-nil, take_at}
 use Rattle.std.proofs.lemmas.List.Elements.{All-nil, All-cons, All-append}
-use Rattle.httparse.specs.Grammar.{AllPass, Field, IsField, IsResponseHead, LineEnd, ReadsResponse, ResponseHead, crlf, field_value, is_ows, is_token_byte, is_value_byte, print_response, skip_ows, trim_ows}
-use Rattle.httparse.specs.Spans.{name_and_value}
+use Rattle.httparse.specs.Grammar.{AllPass, Field, IsField, IsResponseHead, ReadsResponse, ResponseHead, crlf, is_ows, is_token_byte, is_value_byte, print_response, skip_ows, trim_ows}
 use Rattle.httparse.proofs.GrammarLemmas.{ReadsResponse-append, cons-append, response_unique}
 use Rattle.httparse.proofs.TrimLemmas.{trim_ows_space}
 use Rattle.http_range.specs.declared.reason.ReplyReason.TheVariants.{OtherRange}
 use Rattle.http_range.specs.RangeReplies.{range_lines, range_in, range_reply}
-use Rattle.http_range.specs.Replies.{GoodReply, HasHead, cut, judged, judged_head, number, range_from, range_of, ranged, lengthed}
+use Rattle.http_range.specs.Replies.{GoodReply, HasHead, cut, judged, judged_head, number, range_from, range_of, ranged}
 
 -- decimal digits, one by one
 abbrev AreDigits : List ℕ → Type 0
@@ -209,7 +208,7 @@ judged_good first last total order within small =
     let length_is : trim_ows (32 ∷ decimal n) ≡ decimal n = value_length (decimal n) (digits n wide_n) (some n wide_n) in
     let range_is : trim_ows (32 ∷ v) ≡ v = value_range (decimal first) (decimal last) (decimal total) (digits total wide_t) (some total wide_t) in
     let same : judged 206 ((codes "Content-Length", trim_ows (32 ∷ decimal n)) ∷ (codes "Content-Range", trim_ows (32 ∷ v)) ∷ []) first last
-        ≡ ranged (range_of v) (number (decimal n)) first last =
+    ≡ ranged (range_of v) (number (decimal n)) first last =
     (λ i. ranged (range_of (range_is i)) (number (length_is i)) first last) in
     same
     ∙ (λ i. ranged (reads_range first last total (omega arith) (omega arith) small i) (number-decimal n (omega arith) i) first last)
@@ -269,15 +268,19 @@ judged_other first m last total t small_a small_m small_t good = elim (nat_eq m 
   where
     n : ℕ
     n = m + 1 - first
+
     v : List ℕ
     v = range_text (decimal first) (decimal m) (decimal total)
+
     wide_t : total < 2 ^ 64
     wide_t = omega arith
+
     ranges : nat_eq m last ≡ false → judged_head (reply_head first m total) first last ≡ Err OtherRange
     ranges other =
         (λ i. ranged (range_of (value_range (decimal first) (decimal m) (decimal total) (digits total wide_t) (some total wide_t) i)) (number (trim_ows (32 ∷ decimal n))) first last)
         ∙ (λ i. ranged (reads_range first m total small_a small_m small_t i) (number (trim_ows (32 ∷ decimal n))) first last)
         ∙ cond-false _ _ _ (ap (λ b. (first == first && b) && nat_lt last total) other ∙ ap (λ b. b && nat_lt last total) (and_last (first == first)))
+
     no_good : judged_head (reply_head first m total) first last ≡ Err OtherRange → judged_head (reply_head first m total) first last ≡ Ok t → ⊥
     no_good bad good = let clash : Ok t ≡ Err OtherRange = sym good ∙ bad in cc
 

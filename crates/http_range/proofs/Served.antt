@@ -1,18 +1,17 @@
 -- What is received of a link that serves its files.
-use Rattle.std.proofs.Common.{◌≡◌, ℕ, ◌+◌, ◌-◌, ◌^◌, ◌<◌, ◌≤◌, min, inl, inr, Bool, true, false, List, [], ◌∷◌, ◌++◌, length, refl, sym, ap, subst, ◌∙◌, arith, append_assoc, Option, Some, None}
-use Rattle.std.specs.Prelude.{All, Result, Ok, Err, IfOk, IfSome, IsSome, is_ok, is_err, codes, decimal}
+use Rattle.std.proofs.Common.{◌≡◌, ℕ, ◌+◌, ◌-◌, ◌^◌, ◌<◌, ◌≤◌, min, inl, inr, Bool, true, false, List, [], ◌∷◌, ◌++◌, length, refl, sym, ap, subst, ◌∙◌, arith, append_assoc, Some}
+use Rattle.std.specs.Prelude.{Result, Ok, Err, IfOk, IfSome, IsSome, is_err, codes, decimal}
 use Rattle.std.proofs.lemmas.Bool.{cases_lt}
 use Rattle.std.proofs.lemmas.Fmt.{length-decimal-le}
-use Rattle.std.proofs.lemmas.List.{append-nil, append_cancel_left, length-append, nil_from_length}
+use Rattle.std.proofs.lemmas.List.{append-nil, append_cancel_left, length-append}
 use Rattle.std.proofs.lemmas.List.Elements.{All-nil, All-push}
 use Rattle.http_range.specs.declared.reason.FetchFault.{FetchFault}
 use Rattle.http_range.specs.Fetching.{FetcherState, Asks, AsksAfter, AsksOn, AsksWell, DialsWell, FailsDialing, Fetches, IsFresh, Stops}
 use Rattle.http_range.specs.declared.reason.FetchFault.TheVariants.{Failed, BadReply}
-use Rattle.http_range.specs.Links.{Blob, Dial, Dials, LinkState, Dialed, SendsFront, Went, dial_on, dials_on, dialed, new_dial}
+use Rattle.http_range.specs.Links.{Blob, Dial, Dials, LinkState, Went, dial_on, dials_on, dialed, new_dial}
 use Rattle.http_range.specs.RangeReplies.{range_in, range_reply}
-use Rattle.http_range.specs.Replies.{GoodReply}
 use Rattle.http_range.specs.Requests.{TargetTexts, IsTarget, range_line, request_text}
-use Rattle.http_range.specs.Serving.{AreAsked, Answers, Asked, BeginsIn, IsAsked, IsFrontOf, IsServed, IsFileOf, IsRangeOf, IsServedAt, Serves, ServesBlobs, asked_text, blob_at, replies, reply_to, texts}
+use Rattle.http_range.specs.Serving.{AreAsked, Answers, Asked, BeginsIn, IsAsked, IsServed, IsFileOf, IsRangeOf, IsServedAt, Serves, ServesBlobs, asked_text, blob_at, replies, reply_to, texts}
 use Rattle.http_range.proofs.RangeReply.{IsServerReply, reply_at}
 
 texts-more : (list : List Asked) (a : Asked) → texts (list ++ a ∷ []) ≡ texts list ++ asked_text a
@@ -69,8 +68,7 @@ asks_served blobs a c held out more x total bytes before serves asked there smal
           let none : more ++ front.0 ≡ [] = append_cancel_left well.reply (more ++ front.0) []
           (whole ∙ append-nil (range_reply bytes x.first m) ∙ sym is.all ∙ sym (append-nil well.reply)) in
           let more_none : more ≡ [] = front_nil more front.0 none in
-          let got_reply : well.got ≡ range_reply bytes x.first m = got_is ∙ ap (λ k. well.reply ++ k) more_none ∙ append-nil well.reply ∙ is.all in
-          (
+          let got_reply : well.got ≡ range_reply bytes x.first m = got_is ∙ ap (λ k. well.reply ++ k) more_none ∙ append-nil well.reply ∙ is.all in (
             record {
               total_is = is.total_is;
               within = omega (arith, is.range, begins);

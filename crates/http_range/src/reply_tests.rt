@@ -8,7 +8,8 @@ use sector_extent::{Bytes, CallList, FileTexts};
 use std::alloc::{AllocError, Global};
 use std::test::Fail;
 
-const HEAD: &[u8; 97] = b"HTTP/1.1 206 Partial Content\r\nContent-Range: bytes 65536-131071/200000\r\nContent-Length: 65536\r\n\r\n";
+const HEAD: &[u8; 97] =
+    b"HTTP/1.1 206 Partial Content\r\nContent-Range: bytes 65536-131071/200000\r\nContent-Length: 65536\r\n\r\n";
 
 const SIZE: usize = 65_536;
 
@@ -57,8 +58,7 @@ fn bad(status: u16, reason: ReplyReason) -> Fetched {
 fn a_request_has_its_text(rt: HostRuntime) -> Result<(), Fail> {
     let target = target(rt.alloc())?.ok_or("target")?;
     let text = ask_bytes(rt.alloc(), &target, 65_536, 131_071)?;
-    let wanted =
-        b"GET /l/0 HTTP/1.1\r\nHost: 127.0.0.1:8080\r\nRange: bytes=65536-131071\r\n\r\n";
+    let wanted = b"GET /l/0 HTTP/1.1\r\nHost: 127.0.0.1:8080\r\nRange: bytes=65536-131071\r\n\r\n";
     assert!(rt; text.as_slice() == wanted.as_slice());
     assert_eq!(rt; wanted.len(), 70);
     Ok(())
@@ -90,10 +90,16 @@ fn with_fields(alloc: Global, number: usize) -> Result<Vec<u8>, AllocError> {
 #[test]
 fn fields_are_counted(rt: HostRuntime) -> Result<(), Fail> {
     let most = with_fields(rt.alloc(), 62)?;
-    assert_eq!(rt; fetched(rt.alloc(), most.as_slice(), SIZE)?, (Ok(200_000), true));
+    assert_eq!(rt;
+        fetched(rt.alloc(), most.as_slice(), SIZE)?,
+        (Ok(200_000), true)
+    );
     let more = with_fields(rt.alloc(), 63)?;
     let answer = bad(0, ReplyReason::BadHead);
-    assert_eq!(rt; fetched(rt.alloc(), more.as_slice(), SIZE)?, (answer, false));
+    assert_eq!(rt;
+        fetched(rt.alloc(), more.as_slice(), SIZE)?,
+        (answer, false)
+    );
     Ok(())
 }
 
@@ -102,25 +108,77 @@ fn fields_are_counted(rt: HostRuntime) -> Result<(), Fail> {
 fn heads_good_and_bad(rt: HostRuntime) -> Result<(), Fail> {
     let good = Ok(200_000);
     let table: [(&[u8], Fetched); 16] = [
-        (b"HTTP/1.1 206 P\r\nContent-Range: bytes 65536-131071/200000\r\nContent-Length: 65536\r\n\r\n", good),
-        (b"HTTP/1.0 206 P\r\nContent-Range: bytes 65536-131071/200000\r\nContent-Length: 65536\r\n\r\n", good),
-        (b"HTTP/1.1 206 P\nContent-Range: bytes 65536-131071/200000\nContent-Length: 65536\n\n", good),
-        (b"HTTP/1.1 206\r\ncontent-LENGTH:65536 \t\r\nCONTENT-range:\tbytes 065536-0131071/200000\r\n\r\n", good),
-        (b"\r\nHTTP/1.1 206 P\r\nContent-Range: bytes 65536-131071/200000\r\nContent-Length: 65536\r\n\r\n", good),
-        (b"HTTP/2.0 206 P\r\nContent-Range: bytes 65536-131071/200000\r\nContent-Length: 65536\r\n\r\n", bad(0, ReplyReason::BadHead)),
-        (b"HTTP/1.1 200 P\r\nContent-Range: bytes 65536-131071/200000\r\nContent-Length: 65536\r\n\r\n", bad(200, ReplyReason::NotPartial)),
-        (b"HTTP/1.1 206 P\r\nTransfer-Encoding: chunked\r\nContent-Range: bytes 65536-131071/200000\r\n\r\n", bad(206, ReplyReason::Chunked)),
-        (b"HTTP/1.1 206 P\r\nContent-Range: bytes 65536-131071/200000\r\nContent-Range: bytes 65536-131071/200000\r\nContent-Length: 65536\r\n\r\n", bad(206, ReplyReason::NoRange)),
-        (b"HTTP/1.1 206 P\r\nContent-Range: bytes 65536-131071/*\r\nContent-Length: 65536\r\n\r\n", bad(206, ReplyReason::NoRange)),
-        (b"HTTP/1.1 206 P\r\nContent-Length: 65536\r\n\r\n", bad(206, ReplyReason::NoRange)),
-        (b"HTTP/1.1 206 P\r\nContent-Range: bytes 0-65535/200000\r\nContent-Length: 65536\r\n\r\n", bad(206, ReplyReason::OtherRange)),
-        (b"HTTP/1.1 206 P\r\nContent-Range: bytes 65536-131071/131071\r\nContent-Length: 65536\r\n\r\n", bad(206, ReplyReason::OtherRange)),
-        (b"HTTP/1.1 206 P\r\nContent-Range: bytes 65536-131071/200000\r\n\r\n", bad(206, ReplyReason::NoLength)),
-        (b"HTTP/1.1 206 P\r\nContent-Range: bytes 65536-131071/200000\r\nContent-Length: 65537\r\n\r\n", bad(206, ReplyReason::OtherLength)),
-        (b"HTTP/1.1 206 P\r\nContent-Range: bytes 65536-131071/200000\r\nContent-Length: 65535\r\n\r\n", bad(206, ReplyReason::OtherLength)),
+        (
+            b"HTTP/1.1 206 P\r\nContent-Range: bytes 65536-131071/200000\r\nContent-Length: 65536\r\n\r\n",
+            good,
+        ),
+        (
+            b"HTTP/1.0 206 P\r\nContent-Range: bytes 65536-131071/200000\r\nContent-Length: 65536\r\n\r\n",
+            good,
+        ),
+        (
+            b"HTTP/1.1 206 P\nContent-Range: bytes 65536-131071/200000\nContent-Length: 65536\n\n",
+            good,
+        ),
+        (
+            b"HTTP/1.1 206\r\ncontent-LENGTH:65536 \t\r\nCONTENT-range:\tbytes 065536-0131071/200000\r\n\r\n",
+            good,
+        ),
+        (
+            b"\r\nHTTP/1.1 206 P\r\nContent-Range: bytes 65536-131071/200000\r\nContent-Length: 65536\r\n\r\n",
+            good,
+        ),
+        (
+            b"HTTP/2.0 206 P\r\nContent-Range: bytes 65536-131071/200000\r\nContent-Length: 65536\r\n\r\n",
+            bad(0, ReplyReason::BadHead),
+        ),
+        (
+            b"HTTP/1.1 200 P\r\nContent-Range: bytes 65536-131071/200000\r\nContent-Length: 65536\r\n\r\n",
+            bad(200, ReplyReason::NotPartial),
+        ),
+        (
+            b"HTTP/1.1 206 P\r\nTransfer-Encoding: chunked\r\nContent-Range: bytes 65536-131071/200000\r\n\r\n",
+            bad(206, ReplyReason::Chunked),
+        ),
+        (
+            b"HTTP/1.1 206 P\r\nContent-Range: bytes 65536-131071/200000\r\nContent-Range: x\r\n\r\n",
+            bad(206, ReplyReason::NoRange),
+        ),
+        (
+            b"HTTP/1.1 206 P\r\nContent-Range: bytes 65536-131071/*\r\nContent-Length: 65536\r\n\r\n",
+            bad(206, ReplyReason::NoRange),
+        ),
+        (
+            b"HTTP/1.1 206 P\r\nContent-Length: 65536\r\n\r\n",
+            bad(206, ReplyReason::NoRange),
+        ),
+        (
+            b"HTTP/1.1 206 P\r\nContent-Range: bytes 0-65535/200000\r\nContent-Length: 65536\r\n\r\n",
+            bad(206, ReplyReason::OtherRange),
+        ),
+        (
+            b"HTTP/1.1 206 P\r\nContent-Range: bytes 65536-131071/131071\r\nContent-Length: 65536\r\n\r\n",
+            bad(206, ReplyReason::OtherRange),
+        ),
+        (
+            b"HTTP/1.1 206 P\r\nContent-Range: bytes 65536-131071/200000\r\n\r\n",
+            bad(206, ReplyReason::NoLength),
+        ),
+        (
+            b"HTTP/1.1 206 P\r\nContent-Range: bytes 65536-131071/200000\r\nContent-Length: 65537\r\n\r\n",
+            bad(206, ReplyReason::OtherLength),
+        ),
+        (
+            b"HTTP/1.1 206 P\r\nContent-Range: bytes 65536-131071/200000\r\nContent-Length: 65535\r\n\r\n",
+            bad(206, ReplyReason::OtherLength),
+        ),
     ];
     for (head, answer) in table {
-        assert_eq!(rt; fetched(rt.alloc(), head, SIZE)?, (answer, answer == good), "{head:?}");
+        assert_eq!(rt;
+            fetched(rt.alloc(), head, SIZE)?,
+            (answer, answer == good),
+            "{head:?}"
+        );
     }
     Ok(())
 }

@@ -48,7 +48,7 @@ shown-plain b tops attempts files fit names = record {
 }
 
 -- a body that is written asks no more of sizes than that they are within the image
-written-exact : (body : List ℕ) → format_said body ≡ 2 → exact_said body ≡ false
+pub written-exact : (body : List ℕ) → format_said body ≡ 2 → exact_said body ≡ false
 written-exact body is = ap (λ (f : ℕ). nat_eq f 0) is
 
 -- or a freeze that was tried

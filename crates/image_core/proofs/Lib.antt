@@ -1,3 +1,4 @@
+pub mod Grows
 pub mod Sizes
 pub mod FaultCounts
 pub mod BlankLayers

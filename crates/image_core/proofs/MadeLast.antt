@@ -14,7 +14,7 @@ use Rattle.image_core.specs.Creating.{LeavesInOrder, IsMadeLast}
 use Rattle.image_core.proofs.StepGoes.{not-manifest}
 
 -- one run after another
-leaves-joined : {I : Type 0} (old mid new : DiskState) (P : I → Files → Type 0) → LeavesOnly old mid P → LeavesOnly mid new P → LeavesOnly old new P
+pub leaves-joined : {I : Type 0} (old mid new : DiskState) (P : I → Files → Type 0) → LeavesOnly old mid P → LeavesOnly mid new P → LeavesOnly old new P
 leaves-joined {I} old mid new P first second = record {
   later = omega (arith, first.later, second.later);
   past = λ k files le left. first.past k files le (second.past k files (omega (arith, le, first.later)) left);

@@ -1,6 +1,6 @@
 -- What the parts of an image and its files hold is what the image keeps for its history.
-use Rattle.std.proofs.Common.{◌≡◌, ℕ, suc, ◌<◌, ◌≤◌, inl, inr, Bool, IsTrue, List, [], length, reverse, sym, ap, ◌∙◌, subst, arith}
-use Rattle.std.specs.Prelude.{Option, Some, None, slice_index_or}
+use Rattle.std.proofs.Common.{◌≡◌, ℕ, suc, ◌<◌, ◌≤◌, ◌⊎◌, inl, inr, Bool, IsTrue, List, [], length, reverse, sym, ap, ◌∙◌, subst, arith}
+use Rattle.std.specs.Prelude.{Contains, Option, Some, None, slice_index_or}
 use Rattle.std.proofs.lemmas.List.{get_or_past}
 use Rattle.std.proofs.lemmas.List.FromFn.{length-map-range_with_len, get_or-map-range_with_len}
 use Rattle.std.proofs.lemmas.Bool.Decides.{leb_tells}
@@ -25,10 +25,12 @@ use Rattle.top_writer.proofs.GrowLaws.{shows_weaker}
 use Rattle.top_writer.proofs.ShowLaws.{either_body, fits_shown}
 use Rattle.image_core.specs.declared.parts.Parts.{Parts}
 use Rattle.image_core.specs.Numbers.{manifest_file}
-use Rattle.image_core.specs.Manifest.{exact_said}
+use Rattle.gate_mark.specs.MarkFile as marks
+use Rattle.flat_image.specs.Base.{pending_of}
+use Rattle.image_core.specs.Manifest.{Names, exact_said}
 use Rattle.image_core.specs.Shows.{epoch_of, parent_asked, heads_asked, ShowsFrozen}
 use Rattle.image_core.specs.View.{AreLayersOf, IsKindOf, HasKinds, ReadsAs, IsCommitOf, CommitReadsAs}
-use Rattle.image_core.specs.FileSets.{FilesFit}
+use Rattle.image_core.specs.FileSets.{GrowTried, FilesFit}
 use Rattle.image_core.specs.Keeping.{HoldsAs, KeepsFor}
 use Rattle.image_core.specs.Parts.{parts_view, PartsFit}
 use Rattle.image_core.specs.Seen.{Seen, StandsFor}
@@ -86,28 +88,35 @@ module _ (tells : Bool) (disk : DiskState) (p : Parts) (b : Base) (tops : List S
   none-below : (k : ℕ) → k < length b.done → ⊥
   none-below k below = omega (arith, below, ap (length {A = List ℕ}) fit.none_done)
 
-  -- files whose manifest a crash leaves, and whose top shows one of some tops, are those of the image with these tops
+  -- files whose manifest names what the image has, or was tried, and whose top shows one of some tops, are those of the image
+  pub files-named : (may : List Stand) (tried : List Asked) (files : Files) (sequence : ℕ) (body : List ℕ) → marks.Shows sequence body (files manifest_file)
+      → (IsTrue (exact_said body) → IsTrue fit.exact)
+      → Names body (length b.done) (pending_of b.frozen) b.sectors ⊎ ((sectors : ℕ) × Contains tried (Sectors sectors) × GrowTried b.sectors (length b.done) b.frozen sectors body)
+      → ShowsOne (epoch_of b) b.sectors (heads_asked fit.exact (epoch_of b) b.lowers) may files → FilesFit b may tried files
+  files-named may tried files sequence body manifest format named one = record {
+    sequence = sequence;
+    body = body;
+    manifest = manifest;
+    named = elim named [
+      | inl names ↦ inl names
+      | inr grown ↦ inr (Sectors grown.0, grown.1, grown.2)
+    ];
+    sound = sound-weaker fit.exact (exact_said body) b format fit.sound;
+    done = λ k below. absurd (none-below k below);
+    frozen = subst (λ f. ShowsFrozen (exact_said body) (length b.done) b.sectors b.lowers f files) (sym fit.none_frozen) tt;
+    top = one.stand;
+    among = one.among;
+    shows = shows_weaker b.sectors fit.exact (exact_said body) (parent_asked (epoch_of b) b.lowers) one.stand (stored_in (epoch_of b) files) format one.shows;
+  }
+
+  -- and so those whose manifest a crash leaves
   pub files-fit : (may : List Stand) (files : Files) → disk.may_leave manifest_file (files manifest_file)
       → ShowsOne (epoch_of b) b.sectors (heads_asked fit.exact (epoch_of b) b.lowers) may files → FilesFit b may attempts files
   files-fit may files left one =
       let file : List ℕ = files manifest_file in
       let fits = fit.manifest file (subst (λ (f : ℕ). disk.may_leave f file) (sym fit.manifest_is) left) in
       let held = either_body p.manifest p.manifest.rest file (shown p.manifest.current p.manifest.sequence p.manifest.body p.manifest.rest file fits) in
-      record {
-        sequence = held.0;
-        body = held.1;
-        manifest = held.3;
-        named = elim (fit.named held.1 held.2) [
-          | inl names ↦ inl names
-          | inr grown ↦ inr (Sectors grown.0, grown.1, grown.2)
-        ];
-        sound = sound-weaker fit.exact (exact_said held.1) b (fit.format held.1 held.2) fit.sound;
-        done = λ k below. absurd (none-below k below);
-        frozen = subst (λ f. ShowsFrozen (exact_said held.1) (length b.done) b.sectors b.lowers f files) (sym fit.none_frozen) tt;
-        top = one.stand;
-        among = one.among;
-        shows = shows_weaker b.sectors fit.exact (exact_said held.1) (parent_asked (epoch_of b) b.lowers) one.stand (stored_in (epoch_of b) files) (fit.format held.1 held.2) one.shows;
-      }
+      files-named may attempts files held.0 held.1 held.3 (fit.format held.1 held.2) (fit.named held.1 held.2) one
 
   pub parts-hold : HoldsAs tells disk (parts_view p) b tops attempts
   parts-hold = record {

@@ -66,7 +66,7 @@ left-within base history None files left = left
 module _ (x y : Seen) (becomes : Stand → Stand) (leaves : Stand → List Stand → List Stand) (same : IsSameBesides x.parts y.parts) (tells_is : y.tells ≡ x.tells)
     (goes : TopGoes x.tells x.state y.state x.parts.top y.parts.top becomes leaves) where
   -- what the image is after a call on its top
-  fits-after : (b : Base) (tops : List Stand) (attempts : List Asked) → PartsFit x.tells x.state x.parts b tops attempts
+  pub fits-after : (b : Base) (tops : List Stand) (attempts : List Asked) → PartsFit x.tells x.state x.parts b tops attempts
       → PartsFit y.tells y.state y.parts (put_top b (becomes (stand b))) (leaves (stand b) tops) attempts
   fits-after b tops attempts fit =
       let asked : HeadsAsked = shows.heads_asked fit.exact (shows.epoch_of b) b.lowers in
@@ -91,7 +91,7 @@ module _ (x y : Seen) (becomes : Stand → Stand) (leaves : Stand → List Stand
       })
 
   -- and what a crash leaves at each moment of it
-  moment : (noted : Option Act) (base : Base) (history : History) → StandsFor x base history
+  pub moment : (noted : Option Act) (base : Base) (history : History) → StandsFor x base history
       → LeavesOnly x.state y.state (λ (u : Unit {0}) (files : Files). ShowsLeftWithin base history noted files)
   moment noted base history stands =
       let b : Base = now base history in
@@ -180,9 +180,9 @@ pub counts-clean : (faults later : ℕ) (act : Act) → is_fault act ≡ false �
     → base.faults + fault_count history ≤ faults → base.faults + fault_count (history ++ entry number act ∷ []) ≤ later
 counts-clean faults later act clean rise base history number before = omega (arith, before, rise, fault-entry history number act clean)
 
-pub counts-fault : (faults later : ℕ) → faults + 1 ≤ later → (base : Base) (history : History) (number : ℕ)
-    → base.faults + fault_count history ≤ faults → base.faults + fault_count (history ++ entry number (Fault Nothing) ∷ []) ≤ later
-counts-fault faults later rise base history number before = omega (arith, before, rise, fault-more history number Nothing)
+pub counts-fault : (faults later : ℕ) (asked : Asked) → faults + 1 ≤ later → (base : Base) (history : History) (number : ℕ)
+    → base.faults + fault_count history ≤ faults → base.faults + fault_count (history ++ entry number (Fault asked) ∷ []) ≤ later
+counts-fault faults later asked rise base history number before = omega (arith, before, rise, fault-more history number asked)
 
 -- tops that the history keeps, after a change or a fault, after a flush, and after one that failed
 pub keeps-before : (act : Act) → keeps act ≡ false → (base : Base) (history : History) (number : ℕ) (tops : List Stand) → All (KeptStand base history) tops
@@ -194,11 +194,11 @@ pub keeps-flushed : (base : Base) (history : History) (number : ℕ) (tops : Lis
 keeps-flushed base history number tops kept =
     kept-one base (history ++ entry number Flush ∷ []) (stand (now base history)) (ap stand (sym (now-entry base history number Flush)))
 
-pub keeps-unflushed : (base : Base) (history : History) (number : ℕ) (tops : List Stand) → All (KeptStand base history) tops
-    → All (KeptStand base (history ++ entry number (Fault Nothing) ∷ [])) (this_too (stand (now base history)) tops)
-keeps-unflushed base history number tops kept =
-    let h : History = history ++ entry number (Fault Nothing) ∷ [] in
-    kept-too base h (stand (now base history)) tops (ap stand (sym (now-entry base history number (Fault Nothing)))) (kept-more base history tops number (Fault Nothing) refl kept)
+pub keeps-unflushed : (asked : Asked) (base : Base) (history : History) (number : ℕ) (tops : List Stand) → All (KeptStand base history) tops
+    → All (KeptStand base (history ++ entry number (Fault asked) ∷ [])) (this_too (stand (now base history)) tops)
+keeps-unflushed asked base history number tops kept =
+    let h : History = history ++ entry number (Fault asked) ∷ [] in
+    kept-too base h (stand (now base history)) tops (ap stand (sym (now-entry base history number (Fault asked)))) (kept-more base history tops number (Fault asked) refl kept)
 
 -- whole sectors of an extent within the image may be written
 pub within-write : (n at count : ℕ) (bytes : List ℕ) → length bytes ≡ 512 * count → at + count ≤ n → IsWithin n at bytes
@@ -236,7 +236,7 @@ module _ {D : Type 0} (kind : Ghosts D) (image : Image D) (disk : D) (now_at : K
   reads-failed rose =
       goes-noted (seen kind image) (with_disk kind disk (record image.parts { steps = image.parts.steps + 1 })) unchanged as_before (Fault Nothing)
       (record { manifest = refl; lowers = refl; snapshot = refl }) refl refl as_top refl (λ b. refl) (λ b is. tt)
-      (counts-fault (kind.faults image.disk) (kind.faults disk) (omega (arith, rose))) (keeps-before (Fault Nothing) refl)
+      (counts-fault (kind.faults image.disk) (kind.faults disk) Nothing (omega (arith, rose))) (keeps-before (Fault Nothing) refl)
 
   pub reads-refused : Goes (seen kind image) (with_disk kind disk image.parts) None
   reads-refused = goes-refused (seen kind image) (with_disk kind disk image.parts) (record { manifest = refl; lowers = refl; snapshot = refl }) refl refl refl rise as_top

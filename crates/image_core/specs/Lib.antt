@@ -1,6 +1,7 @@
 pub mod Seen
 pub mod Creating
 pub mod FileSets
+pub mod Growing
 pub mod Keeping
 pub mod Laws
 pub mod Loading

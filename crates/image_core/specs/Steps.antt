@@ -1,5 +1,5 @@
 -- Lists of steps of an image: when they may be asked for, what they note, and what their replies say.
-use Rattle.std.specs.Prelude.{◌≡◌, ℕ, ◌+◌, ◌*◌, ◌≤◌, ◌↔◌, List, [], ◌∷◌, ◌++◌, length, drop, replicate, All, Bool, IsTrue, Option, Some, None, Result, Err, OnOk, IsErrOf, ⊤}
+use Rattle.std.specs.Prelude.{◌≡◌, ℕ, ◌+◌, ◌*◌, ◌^◌, ◌≤◌, ◌↔◌, List, [], ◌∷◌, ◌++◌, length, drop, replicate, All, Bool, IsTrue, Option, Some, None, Result, Err, OnOk, IsErrOf, ⊤}
 use Rattle.sector_extent.specs.Causes.{Charges}
 use Rattle.block_disk.specs.declared.disk.Disk.{Ghosts}
 use Rattle.sector_extent.specs.declared.extent.Extent.{Extent}
@@ -18,10 +18,11 @@ use Rattle.top_writer.specs.Gaps.{Paints, IsHole, AreGaps}
 use Rattle.image_core.specs.declared.image.Image.{Image}
 use Rattle.image_core.specs.declared.status.Status as statuses
 use Rattle.image_core.specs.declared.steps.Step.{Step}
-use Rattle.image_core.specs.declared.steps.Step.TheVariants.{Plan, Write, Zero, Flush, Status}
+use Rattle.image_core.specs.declared.steps.Step.TheVariants.{Plan, Write, Zero, Flush, Grow, Status}
 use Rattle.image_core.specs.declared.steps.Numbered.{Numbered}
 use Rattle.image_core.specs.declared.steps.Reply.{Reply}
-use Rattle.image_core.specs.declared.steps.Reply.TheVariants.{Planned, Wrote, Zeroed, Flushed, Now}
+use Rattle.image_core.specs.declared.steps.Reply.TheVariants.{Planned, Wrote, Zeroed, Flushed, Grown, Now}
+use Rattle.image_core.specs.Growing.{noted_grow, IsRefusedGrow}
 use Rattle.image_core.specs.Parts.{noted_change, noted_call, noted_read}
 use Rattle.image_core.specs.Seen.{Seen, seen, StandsFor, Goes}
 use Rattle.image_core.specs.Upper.{upper}
@@ -32,6 +33,7 @@ MayStep n (Plan e) = e.at + e.count ≤ n
 MayStep n (Write e bytes) = (length bytes ≡ 512 * e.count) × (e.at + e.count ≤ n)
 MayStep n (Zero e) = e.at + e.count ≤ n
 MayStep n Flush = ⊤
+MayStep n (Grow sectors) = sectors ≤ 2 ^ 31
 MayStep n Status = ⊤
 
 -- and so may each step of the list
@@ -44,6 +46,7 @@ noted_with (Plan e) (Planned outcome bytes gaps) = noted_read (acts.Read e.at e.
 noted_with (Write e bytes) (Wrote outcome) = noted_change (acts.Write e.at bytes) outcome
 noted_with (Zero e) (Zeroed outcome) = noted_change (acts.Zero e.at e.count) outcome
 noted_with Flush (Flushed outcome) = noted_call acts.Flush outcome
+noted_with (Grow sectors) (Grown outcome) = noted_grow sectors outcome
 noted_with step reply = None
 
 -- the entry of an act, or none
@@ -83,6 +86,7 @@ IsReply tells b (Write e bytes) (Wrote outcome) = IsRefusedFull b.rows b.filled 
 IsReply tells b (Zero e) (Zeroed outcome) =
     IsRefusedFull b.rows b.filled (b.rows + rows_for e.count) b.filled outcome × (IsErrOf outcome Failed → ⊥)
 IsReply tells b Flush (Flushed outcome) = ⊤
+IsReply tells b (Grow sectors) (Grown outcome) = IsRefusedGrow (pending_of b.frozen) b.sectors sectors outcome
 IsReply tells b Status (Now s) = IsTold b s
 IsReply tells b step reply = ⊥
 

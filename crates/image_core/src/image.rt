@@ -13,7 +13,9 @@ ghost use Rattle.top_writer.specs.declared.fault.WriteFault.TheVariants.{Full, F
 ghost use Rattle.top_writer.specs.declared.fault.ReadFault.TheVariants as reads;
 ghost use Rattle.top_writer.specs.Gaps.{Paints, AreGaps};
 ghost use Rattle.image_core.specs.declared.creating.CreateFault.TheVariants as faults;
+ghost use Rattle.image_core.specs.declared.growing.GrowFault.TheVariants as grows;
 ghost use Rattle.image_core.specs.declared.loading.LoadFault.TheVariants as why;
+ghost use Rattle.image_core.specs.Growing.{noted_grow, pending_in, IsRefusedGrow};
 ghost use Rattle.image_core.specs.Loading.{IsLoadReason, upper_uuid};
 ghost use Rattle.block_disk.specs.Claims.{Quiet};
 ghost use Rattle.image_core.specs.Numbers.{manifest_file};
@@ -32,7 +34,9 @@ ghost use Rattle.sector_extent.specs.Causes.{Charges};
 ghost use Rattle.image_core.specs.Creating.{AreLegal, fresh_at, IsNewManifest, IsMadeLast};
 
 use crate::creating::CreateFault;
+use crate::growing::GrowFault;
 use crate::loading::LoadFault;
+use crate::manifest::new_body;
 use crate::parts::{LayerList, Parts};
 use crate::snapshot::Snapshot;
 use crate::status::Status;
@@ -222,6 +226,44 @@ impl<D: Disk> Image<D> {
             Err(DiskFailed) => {
                 self.parts.steps += 1;
                 Err(DiskFailed)
+            }
+        }
+    }
+
+    /// Lets the image have so many sectors, more than before; those that come are zeros. It flushes the
+    /// top, sets the manifest and lets the top grow. It takes no memory. After a failure the image goes on
+    /// as it was, and a crash may leave it grown; a later grow that succeeds heals that.
+    pub fn grow(&mut self, sectors: u64) -> Result<(), GrowFault>
+        requires standing { IsImage (seen D.Disk self.old) }
+        requires few { sectors ≤ 2 ^ 31 }
+        requires steps { (view self.old).steps < 2 ^ 62 }
+        ensures goes { Goes (seen D.Disk self.old) (seen D.Disk self.new) (noted_grow sectors result) }
+        ensures refused { IsRefusedGrow (pending_in (view self.old)) (view self.old).sectors sectors result }
+        // a refusal that is not the disk's leaves all as it was
+        ensures same { OnErr result (¬ IsErrOf result grows.Failed → self.new ≡ self.old) }
+        ensures cause { Charges (faults_in D.Disk) self.old self.new (IsErrOf result grows.Failed) }
+    {
+        let own = self.sectors();
+        if sectors <= own {
+            return Err(GrowFault::NotLarger(own));
+        }
+        let top = &mut self.parts.top;
+        match top.flush(&mut self.disk) {
+            Ok(()) => {}
+            Err(DiskFailed) => {
+                self.parts.steps += 1;
+                return Err(GrowFault::Failed);
+            }
+        }
+        match self.parts.manifest.set(&mut self.disk, &new_body(sectors)) {
+            Ok(()) => {
+                self.parts.top.grow(sectors);
+                self.parts.steps += 1;
+                Ok(())
+            }
+            Err(DiskFailed) => {
+                self.parts.steps += 1;
+                Err(GrowFault::Failed)
             }
         }
     }

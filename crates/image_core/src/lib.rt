@@ -3,6 +3,7 @@
 #![tactic(auto)]
 
 mod creating;
+mod growing;
 mod image;
 mod laws;
 mod loading;
@@ -15,6 +16,7 @@ mod steps;
 mod whole;
 
 pub use creating::CreateFault;
+pub use growing::GrowFault;
 pub use image::Image;
 pub use laws::{left_laws, loading_laws, planning_law, reading_laws, showing_laws, standing_laws};
 pub use loading::LoadFault;
@@ -25,6 +27,8 @@ pub use status::Status;
 pub use steps::{Numbered, Reply, ReplyList, Step, StepList, run_steps};
 pub use whole::WholeFault;
 
+#[cfg(test)]
+mod grow_tests;
 #[cfg(test)]
 mod old_tests;
 #[cfg(test)]

@@ -25,7 +25,7 @@ fn body_of(committed: u64, epoch: u64, uuid: &[u8; 16], sectors: u64) -> [u8; 48
     body.finish()
 }
 
-// The body of a new image.
+// The body of an image of so many sectors without commits.
 pub(crate) fn new_body(sectors: u64) -> [u8; 48]
     ensures { IsWritten result 0 None sectors }
 {

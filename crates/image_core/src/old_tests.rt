@@ -15,9 +15,17 @@ const LENGTHS: [u64; 4] = [1_024, 5_632, 4_144, 1_024];
 const PARTS: [(u32, u64, [u8; 16]); 15] = [
     (0, 0, [0xA5, 0, 0, 0, 0, 0, 0, 0, 1, 0, 0, 0, 0, 0, 0, 0]),
     (0, 48, [8, 0, 0, 0, 0, 0, 0, 0, 0, 0, 0, 0, 0, 0, 0, 0]),
-    (1, 0, [79, 66, 68, 76, 65, 89, 82, 49, 1, 0, 0, 0, 5, 0, 0, 0]),
+    (
+        1,
+        0,
+        [79, 66, 68, 76, 65, 89, 82, 49, 1, 0, 0, 0, 5, 0, 0, 0],
+    ),
     (1, 32, [8, 0, 0, 0, 0, 0, 0, 0, 0, 0, 0, 0, 0, 0, 0, 0]),
-    (2, 0, [79, 66, 68, 76, 65, 89, 82, 49, 1, 0, 0, 0, 1, 0, 0, 0]),
+    (
+        2,
+        0,
+        [79, 66, 68, 76, 65, 89, 82, 49, 1, 0, 0, 0, 1, 0, 0, 0],
+    ),
     (2, 32, [8, 0, 0, 0, 0, 0, 0, 0, 0, 0, 0, 0, 0, 0, 0, 0]),
     (2, 4_096, [1, 0, 0, 0, 0, 0, 8, 0, 8, 0, 0, 0, 0, 0, 0, 0]),
     (2, 4_112, [2, 0, 0, 0, 0, 0, 4, 0, 0, 0, 0, 0, 0, 0, 128, 0]),
@@ -33,10 +41,10 @@ const PARTS: [(u32, u64, [u8; 16]); 15] = [
 
 // The bytes of the eight sectors: the first one and those behind the rows were never written, and the
 // third one is zeros again.
-const SECTORS: [u8; 8] = [0, 0x61, 0, 0, 0, 0x63, 0, 0];
+pub(crate) const SECTORS: [u8; 8] = [0, 0x61, 0, 0, 0, 0x63, 0, 0];
 
 // A disk with these files.
-fn old_disk(alloc: Global) -> Result<MemDisk, Fail> {
+pub(crate) fn old_disk(alloc: Global) -> Result<MemDisk, Fail> {
     let mut disk = MemDisk::new(alloc);
     for (at, byte) in [(4_096, 0x61), (4_608, 0x62), (5_120, 0x63)] {
         disk.write_at(1, at, &[byte; 512])?;

@@ -6,6 +6,7 @@ ghost use Rattle.flat_image.specs.History.{History, now};
 ghost use Rattle.image_core.specs.Seen.{seen, view, faults_in, IsImage, StandsFor, Goes};
 ghost use Rattle.image_core.specs.Steps.{MayStep, MayRun, noted_with, noted_by, NotesFault, IsReply, AreReplies, added, MakesNext, GoesBy};
 
+use crate::growing::GrowFault;
 use crate::image::Image;
 use crate::status::Status;
 use block_disk::{Disk, DiskFailed};
@@ -26,6 +27,8 @@ pub enum Step {
     Zero(Extent),
     /// All that was written and zeroed is put onto the disk.
     Flush,
+    /// The image gets so many sectors.
+    Grow(u64),
     /// What the image says of itself.
     Status,
 }
@@ -52,6 +55,7 @@ pub enum Reply {
     Wrote(Result<(), WriteFault>),
     Zeroed(Result<(), WriteFault>),
     Flushed(Result<(), DiskFailed>),
+    Grown(Result<(), GrowFault>),
     Now(Status),
 }
 
@@ -109,6 +113,7 @@ fn make_step<D: Disk>(alloc: Global, image: &mut Image<D>, step: &Step) -> Resul
         Step::Write(extent, bytes) => Ok(Reply::Wrote(image.write(*extent, bytes.as_slice()))),
         Step::Zero(extent) => Ok(Reply::Zeroed(image.zero(*extent))),
         Step::Flush => Ok(Reply::Flushed(image.flush())),
+        Step::Grow(sectors) => Ok(Reply::Grown(image.grow(*sectors))),
         Step::Status => Ok(Reply::Now(image.status())),
     }
 }
@@ -160,8 +165,8 @@ fn make_all<D: Disk>(
     Ok(())
 }
 
-/// Makes the steps of a list in order, and adds a reply for each behind those that are there. A step
-/// that is refused, or that the disk fails in, has that as its reply, and the list goes on. Without
+/// Makes the steps of a list in order, and adds a reply for each behind those that are there. Ranges lie
+/// in the image as it is before the list. A step that is refused, or that the disk fails in, has that as its reply, and the list goes on. Without
 /// memory for a plan's bytes or for a reply it stops before that step.
 pub fn run_steps<D: Disk>(
     alloc: Global,

@@ -4,6 +4,7 @@ pub mod Pieces
 pub mod Charged
 pub mod Inputs
 pub mod Readings
+pub mod RunLaws
 pub mod OneLayers
 pub mod ShelfCommands
 pub mod AllPorts

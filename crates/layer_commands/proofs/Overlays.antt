@@ -14,6 +14,7 @@ use Rattle.flat_image.proofs.Painting.{FitsIn, flat-over}
 use Rattle.flat_image.proofs.LayerLaws.{IsSheet-layer}
 use Rattle.flat_image.proofs.CellLaws.{whole_cells, hole_past}
 use Rattle.sealed_layer.specs.Layers.{LayerIndex}
+use Rattle.layer_commands.specs.Runs.{zeros}
 use Rattle.layer_commands.specs.Flattening.{AreTold, FitIn, layer_over, overlaid, flat_part, sheets_by, told_flat}
 
 step_of : (m : ℕ) → 512 + 512 * m ≡ 512 * suc m
@@ -21,10 +22,10 @@ step_of m = omega arith
 
 -- ---- one layer
 
-over_run : (file : List ℕ) (rows : List Row) (at count : ℕ) (old : List ℕ) → layer_over file rows at count old ≡ run (cell_of file rows) at count old
+pub over_run : (file : List ℕ) (rows : List Row) (at count : ℕ) (old : List ℕ) → layer_over file rows at count old ≡ run (cell_of file rows) at count old
 over_run file rows at count old = bytes_of-paint (cell_of file rows) at count old
 
-index_inside : (file : List ℕ) (head : Head) (rows : List Row) → LayerOf file head rows → head.index_at ≤ length file
+pub index_inside : (file : List ℕ) (head : Head) (rows : List Row) → LayerOf file head rows → head.index_at ≤ length file
 index_inside file head rows layer = let end = layer.index.end in omega (arith, end)
 
 -- each cell of a layer is whole
@@ -41,7 +42,7 @@ run-append f at (suc n) xs ys size =
     ∙ ap (λ (bytes : List ℕ). painted (take 512 xs) (f at) ++ run f (at + 1) n bytes) (drop-append-le 512 xs ys long)
     ∙ ap (λ (bytes : List ℕ). painted (take 512 xs) (f at) ++ bytes) (run-append f (at + 1) n (drop 512 xs) ys rest)
 
-run-parts : (f : ℕ → Cell) (at a b : ℕ) (xs ys : List ℕ) → length xs ≡ 512 * a → run f at (a + b) (xs ++ ys) ≡ run f at a xs ++ run f (at + a) b ys
+pub run-parts : (f : ℕ → Cell) (at a b : ℕ) (xs ys : List ℕ) → length xs ≡ 512 * a → run f at (a + b) (xs ++ ys) ≡ run f at a xs ++ run f (at + a) b ys
 run-parts f at a b xs ys size =
     run-split f at a b (xs ++ ys)
     ∙ ap (λ (bytes : List ℕ). bytes ++ run f (at + a) b (drop (512 * a) (xs ++ ys))) (run-append f at a xs ys size)
@@ -120,10 +121,7 @@ folded n (file ∷ files) (layer ∷ layers) old told fit size =
     ∙ folded n files layers (run f 0 n old) told.1 (All-tail P layer layers fit) (length-run f 0 n old whole (omega (arith, size)))
     ∙ ap (λ (bytes : List ℕ). overlaid files layers 0 n bytes) (sym (over_run file layer.rows 0 n old))
 
-abbrev zeros : ℕ → List ℕ
-zeros n = replicate {A = ℕ} (512 * n) 0
-
-zeros-parts : (a b : ℕ) → zeros (a + b) ≡ zeros a ++ zeros b
+pub zeros-parts : (a b : ℕ) → zeros (a + b) ≡ zeros a ++ zeros b
 zeros-parts a b =
     ap (λ (k : ℕ). replicate {A = ℕ} k 0) (let e : 512 * (a + b) ≡ 512 * a + 512 * b = omega arith in e)
     ∙ sym (replicate-append-replicate (512 * a) (512 * b) 0)

@@ -7,3 +7,4 @@ pub mod Input
 pub mod Causes
 pub mod Reading
 pub mod OneLayer
+pub mod Runs

@@ -10,6 +10,7 @@ mod reading;
 mod refusal;
 mod reports;
 mod running;
+mod runs;
 mod stacks;
 #[cfg(test)]
 mod tests;

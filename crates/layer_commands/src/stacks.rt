@@ -16,7 +16,7 @@ use sealed_layer::{Layer, LayerFault, read_layer};
 use std::alloc::{AllocError, Global};
 
 // What a fault of the file of that number is refused as.
-fn layer_refusal(number: u32, fault: LayerFault) -> Refusal
+pub(crate) fn layer_refusal(number: u32, fault: LayerFault) -> Refusal
     ensures { result ≡ refusal_of number fault }
 {
     match fault {

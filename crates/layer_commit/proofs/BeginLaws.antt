@@ -53,7 +53,7 @@ module _ (table : Table) (uuid parent : List ℕ) (below n from to filled : ℕ)
     (size : IsSize n) (apart : from ≢ to) (ends : EndBy n (cells_of table)) (few : (stored : List ℕ) × (length (canonical_rows (table_sheet stored n table)) ≤ 2 ^ 24))
     (gathered : IsGathered (cells_of table) state v.sources) (filled_is : filled ≡ 8 + counted v.sources) (filled_low : filled ≤ 8 + 2 ^ 31)
     (rows_are : v.rows ≡ rows_ahead state []) (head_is : v.head ≡ head_by uuid parent below n (512 * filled) (length v.rows)) (room : v.room ≡ 131072) (none : v.done ≡ 0) (from_is : v.from_file ≡ from) (to_is : v.to_file ≡ to) where
-  sheet_long : (stored : List ℕ) → length (table_sheet stored n table) ≡ n
+  pub sheet_long : (stored : List ℕ) → length (table_sheet stored n table) ≡ n
   unfolding table_sheet
   sheet_long stored = length-map-range_with_len (λ i. cell_at stored (cells_of table i)) 0 n
 

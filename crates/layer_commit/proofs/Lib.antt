@@ -7,3 +7,4 @@ pub mod WalkLaws
 pub mod GatherLaws
 pub mod ExtendLaws
 pub mod BeginLaws
+pub mod SmallSheets

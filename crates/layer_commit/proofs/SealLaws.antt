@@ -6,10 +6,10 @@ use Rattle.std.proofs.lemmas.List.{length-take, get_or-take, ext_get_or, take_al
 use Rattle.block_disk.specs.Changes.{piece, put, Torn, Same, Only}
 use Rattle.block_disk.specs.ChangeLaws.{length-put, put_below}
 use Rattle.block_disk.specs.Pieces.{get_or-piece, put_inside, length-piece}
-use Rattle.block_disk.specs.DiskState.{DiskState, Files, Leaves, Steps}
+use Rattle.block_disk.specs.DiskState.{DiskState, Files, Leaves, Spares, Steps}
 use Rattle.block_disk.specs.Claims.{FileRun, Quiet}
 use Rattle.block_disk.proofs.Moments.{run_on, by_quiet}
-use Rattle.layer_commit.specs.Fitting.{IsWritten, SealFits, IsWhole, with_done}
+use Rattle.layer_commit.specs.Fitting.{IsWritten, SealFits, IsFitted, IsWhole, with_done}
 use Rattle.layer_commit.specs.View.{SealView, file_by, length_of, pieces_of}
 
 -- a file that is written up to a byte of the whole one is as long
@@ -207,3 +207,9 @@ fits_kept tells old new v stored fits same source = record {
   source = source;
   written = λ t some. subst (IsWritten (131072 * v.done) (file_by v stored)) (sym same) (fits.written t some);
 }
+
+pub fitted_spared : (tells : Bool) (old new : DiskState) (v : SealView) → Spares (λ f. ⊥) old new → IsFitted tells old v → IsFitted tells new v
+fitted_spared tells old new v spares fitted = (
+  fitted.0,
+  fits_kept tells old new v fitted.0 fitted.1 (spares.seen v.to_file (λ x. x)) (λ t. ap (take (length fitted.0)) (spares.seen v.from_file (λ x. x)) ∙ fitted.1.source t),
+)

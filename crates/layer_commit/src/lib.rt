@@ -9,3 +9,6 @@ mod sealing;
 mod source;
 
 pub use sealing::Sealing;
+
+#[cfg(test)]
+mod tests;

@@ -1,2 +1,3 @@
 pub mod BlockReads
+pub mod RangeFiles
 pub mod RangeReads

@@ -1,2 +1,3 @@
 pub mod CachedReads
+pub mod RangeLaws
 pub mod RangeShelves

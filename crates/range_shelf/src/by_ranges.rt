@@ -1,9 +1,10 @@
 //! A shelf over a fetcher: each read is one fetch of its range.
-ghost use Rattle.std.specs.Prelude.{◌≡◌, ℕ, ◌+◌, ◌-◌, ◌^◌, ◌<◌, ◌≤◌, [], List, Ok, Option, Some, None, false, is_err, if◌then◌else◌, length, replicate, slice_index_or, slice_set, Result, IsOk, IfOk, OnOk, OnErr, MatchResult, MatchOption};
+ghost use Rattle.std.specs.Prelude.{◌≡◌, ℕ, ◌+◌, ◌-◌, ◌^◌, ◌<◌, ◌≤◌, [], List, Ok, Option, Some, None, false, is_err, if◌then◌else◌, length, replicate, slice_index_or, slice_set, Result, IsOk, IfOk, IfSome, OnOk, OnErr, MatchResult, MatchOption, take, drop};
 ghost use Rattle.http_range.specs.Fetching.{IsFresh};
 ghost use Rattle.http_range.specs.Requests.{TargetTexts};
 ghost use Rattle.http_range.specs.declared.reason.FetchFault.{FetchFault};
-ghost use Rattle.range_shelf.specs.RangeShelves.{FetchesRange, IsLength};
+ghost use Rattle.layer_shelf.specs.Shelves.{SameFiles, file_at};
+ghost use Rattle.range_shelf.specs.RangeShelves.{RangeShelfState, FetchesRange, FetchesRight, IsLength, files_told};
 
 use http_range::{FetchFault, Fetcher, Link, Target};
 use layer_shelf::{Shelf, ShelfFailed};
@@ -18,7 +19,7 @@ pub type TargetList = ListOf<Target>;
 const MAX_LENGTH: u64 = 1 << 50;
 
 /// File `k` is the file at the target of number `k`. It takes its memory when it is made, and none
-/// later. It tells nothing.
+/// later. Where its link tells that it serves all of them, it tells its files.
 #[derive(Drop)]
 pub struct RangeShelf<L: Link> {
     fetcher: Fetcher<L>,
@@ -29,7 +30,7 @@ pub struct RangeShelf<L: Link> {
 
 impl<L: Link> Model for RangeShelf<L> {
     ghost use Rattle.std.specs.Prelude.{◌≡◌, ◌^◌, ◌<◌, length, All};
-    ghost use Rattle.range_shelf.specs.RangeShelves.{RangeShelfState, IsShort};
+    ghost use Rattle.range_shelf.specs.RangeShelves.{RangeShelfState, IsShort, IsRight};
 
     ghost Value = { RangeShelfState };
 
@@ -41,7 +42,19 @@ impl<L: Link> Model for RangeShelf<L> {
     } };
 
     ghost invariant = { λ s. (length s.targets < 2 ^ 32) × (length s.lengths.items ≡ length s.targets)
-        × All IsShort s.lengths.items };
+        × All IsShort s.lengths.items × IsRight (record {
+          fetcher = s.fetcher;
+          targets = s.targets;
+          lengths = s.lengths.items;
+          faults = s.faults.count;
+        }) };
+}
+
+// So many lengths that are not known.
+fn no_lengths(alloc: Global, count: usize) -> Result<Vec<Option<u64>>, Memory>
+    ensures { IfOk result (λ lengths. lengths.items ≡ replicate count None) }
+{
+    Ok(vec![in alloc; None; count]?)
 }
 
 impl<L: Link> RangeShelf<L> {
@@ -60,7 +73,7 @@ impl<L: Link> RangeShelf<L> {
             (λ e. e.0 ≡ link) }
     {
         let count = targets.as_slice().len();
-        match vec![in alloc; None; count] {
+        match no_lengths(alloc, count) {
             Ok(lengths) => match Fetcher::new(alloc, link) {
                 Ok(fetcher) => Ok(RangeShelf {
                     fetcher,
@@ -86,8 +99,10 @@ fn fetch_range<L: Link>(
     requires file { k < length targets.now }
     requires some { 0 < length out.old }
     requires small { at + length out.old ≤ 2 ^ 63 }
-    ensures { (d : TargetTexts) → FetchesRange (slice_index_or targets.now k d) at (at + (length out.old - 1))
+    ensures fetched { (d : TargetTexts) → FetchesRange (slice_index_or targets.now k d) at (at + (length out.old - 1))
         fetcher.old fetcher.new out.new result }
+    ensures blobs { fetcher.new.link.blobs ≡ fetcher.old.link.blobs }
+    ensures right { FetchesRight fetcher.old fetcher.new targets.now k at (at + (length out.old - 1)) out.new result }
 {
     fetcher.fetch(&targets.as_slice()[k as usize], at, out)
 }
@@ -108,6 +123,8 @@ impl<L: Link> RangeShelf<L> {
         ensures kept { MatchResult result
             (λ n. self.new.lengths ≡ slice_set self.old.lengths k (Some n))
             (λ _. self.new.lengths ≡ self.old.lengths) }
+        ensures blobs { self.new.fetcher.link.blobs ≡ self.old.fetcher.link.blobs }
+        ensures length { IfOk result (λ n. IfSome (files_told self.old) (λ list. n ≡ length (file_at list k))) }
     {
         let mut byte = [0; 1];
         match fetch_range(&mut self.fetcher, &self.targets, k, 0, &mut byte) {
@@ -128,13 +145,15 @@ impl<L: Link> RangeShelf<L> {
 }
 
 impl<L: Link> Shelf for RangeShelf<L> {
-    ghost files = { λ _. None };
+    ghost use Rattle.range_shelf.specs.RangeLaws.{told_count};
+
+    ghost files = { files_told };
 
     ghost count = { λ s. length s.targets };
 
     ghost faults = { λ s. s.faults };
 
-    ghost counted = { λ _. tt };
+    ghost counted = { told_count };
 
     fn count(&self) -> u32
         ensures { result ≡ length self.now.targets }
@@ -159,6 +178,8 @@ impl<L: Link> Shelf for RangeShelf<L> {
         ensures kept { MatchResult result
             (λ n. self.new.lengths ≡ slice_set self.old.lengths k (Some n))
             (λ _. self.new.lengths ≡ self.old.lengths) }
+        ensures same { SameFiles files_told (λ (s : RangeShelfState). length s.targets) self.old self.new }
+        ensures length { IfOk result (λ n. IfSome (files_told self.old) (λ list. n ≡ length (file_at list k))) }
     {
         match self.lengths[k as usize] {
             Some(length) => Ok(length),
@@ -178,6 +199,11 @@ impl<L: Link> Shelf for RangeShelf<L> {
           fetcher = self.new.fetcher;
           faults = (if is_err result then self.old.faults + 1 else self.old.faults);
         } }
+        ensures same { SameFiles files_told (λ (s : RangeShelfState). length s.targets) self.old self.new }
+        ensures bytes { OnOk result (IfSome (files_told self.old) (λ list.
+            out.new ≡ take (length out.old) (drop at (file_at list k)))) }
+        ensures within { OnOk result (IfSome (files_told self.old) (λ list.
+            0 < length out.old → at + length out.old ≤ length (file_at list k))) }
     {
         if out.is_empty() {
             return Ok(());

@@ -8,6 +8,8 @@ mod cached_shelf;
 mod cached_tests;
 #[cfg(test)]
 mod range_tests;
+#[cfg(test)]
+mod speed_tests;
 
 pub use by_ranges::{RangeShelf, TargetList};
 pub use cached_shelf::CachedShelf;

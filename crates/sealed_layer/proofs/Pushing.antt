@@ -35,3 +35,6 @@ pub tags-grow : (head : Head) (piece : List ℕ) (old new : List Row) → Grows 
 tags-grow head piece old new grows tags =
     subst (All IsTagged) (ap (λ (xs : List Row). xs ++ drop (length old) new) (sym grows.kept) ∙ take-append-drop (length old) new)
     (All-append IsTagged old (drop (length old) new) tags (spelled-tags piece 0 (drop (length old) new) grows.spelled))
+
+pub tags-first : (head : Head) (piece : List ℕ) (old new : List Row) → old ≡ [] → Grows head piece old new → All IsTagged new
+tags-first head piece old new none grows = tags-grow head piece old new grows (subst (All IsTagged) (sym none) (All-nil IsTagged))

@@ -70,7 +70,7 @@ fn read_head<S: Shelf>(shelf: &mut S, k: u32, len: u64) -> Result<Head, LayerFau
 }
 
 // The head whose block this is.
-fn decode_head(block: &[u8; 4096]) -> Result<Head, LayerFault>
+pub(crate) fn decode_head(block: &[u8; 4096]) -> Result<Head, LayerFault>
     ensures found { IfOk result (λ head. BlockOf block.now head × (head.kind ≡ SealedHead)) }
     ensures fault { IfErr result (IsNoHead block.now) }
 {
@@ -81,7 +81,7 @@ fn decode_head(block: &[u8; 4096]) -> Result<Head, LayerFault>
 }
 
 // The block is the one at the front with the byte at 12 made 6. The front is changed.
-fn is_trailer(end: &[u8; 4096], front: &mut [u8; 4096]) -> bool
+pub(crate) fn is_trailer(end: &[u8; 4096], front: &mut [u8; 4096]) -> bool
     ensures { IsTrue result ↔ (end.now ≡ slice_set front.old 12 6) }
 {
     front[12] = 6;
@@ -89,7 +89,7 @@ fn is_trailer(end: &[u8; 4096], front: &mut [u8; 4096]) -> bool
 }
 
 // Whether the index that the head names fits a file of so many bytes.
-fn check_index(head: &Head, len: u64) -> Result<(), LayerFault>
+pub(crate) fn check_index(head: &Head, len: u64) -> Result<(), LayerFault>
     requires { len ≤ 2 ^ 50 }
     ensures ok { OnOk result ((head.now.rows ≤ 2 ^ 24) × IsIndexPlace len head.now.index_at head.now.rows) }
     ensures fault { IfErr result (λ fault. ((fault ≡ LayerFault.TooManyRows head.now.rows) × (2 ^ 24 < head.now.rows))

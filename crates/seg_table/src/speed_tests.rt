@@ -63,7 +63,7 @@ fn puts_into_small_and_large_tables(rt: HostRuntime) -> Result<(), Fail> {
         put_over(&mut table, segments, segments)?;
         let anywhere = each(&rt, start, PUTS)?;
         println!(rt;
-            "{segments} segments, a put takes: {rising} ns in rising order, {near} ns near the last ones, {anywhere} ns anywhere"
+            "{segments} segments: {rising} ns a put in rising order, {near} ns near the last, {anywhere} ns anywhere"
         )?;
     }
     Ok(())

@@ -1,5 +1,4 @@
 use Rattle.http_range.proofs.RangeReply.{reply_good, reply_only}
-use Rattle.http_range.proofs.Served.{fetch_served}
 use Rattle.http_range.proofs.laws.range_reply_law.Goals as goal
 
 pub returns-clause-good : goal.returns-clause-good

@@ -1,4 +1,4 @@
-use Rattle.std.proofs.Common.{◌≡◌, ◌+◌, ◌-◌, ◌^◌, take, sym, ap, ◌∙◌, arith}
+use Rattle.std.proofs.Common.{◌≡◌, ◌-◌, ◌^◌, take, sym, ap, ◌∙◌, arith}
 use Rattle.merged_index.specs.Cells.{cell_in, numbered, painted_what, what_of}
 use Rattle.merged_index.specs.declared.piece.PieceWhat.TheVariants.{Hole}
 use Rattle.merged_index.proofs.PlainLaws.{rows_in_any, cell_more, hides}

@@ -1,4 +1,4 @@
-use Rattle.std.proofs.Common.{false, ◌+◌, ◌-◌, ◌<◌, ◌^◌, arith}
+use Rattle.std.proofs.Common.{false, ◌^◌, arith}
 use Rattle.seg_mapping.specs.declared.Row.{Row}
 use Rattle.sealed_layer.proofs.PartLemmas.{row_at}
 use Rattle.merged_index.proofs.plain.said_in.Goals as goal

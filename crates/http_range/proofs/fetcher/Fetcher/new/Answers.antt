@@ -1,5 +1,4 @@
 -- The link's own law, at its beginning.
-use Rattle.std.proofs.Common.{◌≡◌}
 use Rattle.http_range.proofs.Served.{fresh_served}
 use Rattle.http_range.proofs.fetcher.Fetcher.new.Goals as goal
 

@@ -16,4 +16,4 @@ pub returns-in-Err-clause-goes : goal.returns-in-Err-clause-goes
 returns-in-Err-clause-goes g c =
     goes-noted (seen g.D.Disk c.args.self.now) (with_disk g.D.Disk c.flush.new.disk (record c.args.self.now.parts { top = c.flush.new.self; steps = c.args.self.now.parts.steps + 1 }))
     unchanged this_too (Fault Nothing) (record { manifest = refl; lowers = refl; snapshot = refl }) refl refl c.in-Err.ensures.err refl (λ b. refl) (λ b is. tt)
-    (counts-fault (g.D.Disk.faults c.args.self.now.disk) (g.D.Disk.faults c.flush.new.disk) (omega (arith, c.in-Err.ensures.cause.failed refl))) keeps-unflushed
+    (counts-fault (g.D.Disk.faults c.args.self.now.disk) (g.D.Disk.faults c.flush.new.disk) Nothing (omega (arith, c.in-Err.ensures.cause.failed refl))) (keeps-unflushed Nothing)

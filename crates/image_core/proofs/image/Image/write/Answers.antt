@@ -21,7 +21,7 @@ returns-in-Err-Failed-clause-goes g c =
     goes-noted (seen g.D.Disk c.args.self.now) (with_disk g.D.Disk c.write.new.disk (record c.args.self.now.parts { top = c.write.new.self; steps = c.args.self.now.parts.steps + 1 }))
     unchanged as_before (Fault Nothing) (record { manifest = refl; lowers = refl; snapshot = refl }) refl refl c.in-Err-Failed.ensures.err
     refl (λ b. refl) (λ b is. tt)
-    (counts-fault (g.D.Disk.faults c.args.self.now.disk) (g.D.Disk.faults c.write.new.disk) (omega (arith, c.in-Err-Failed.ensures.cause.failed (ap (λ e. Err e) c.in-Err-Failed.field-0-is))))
+    (counts-fault (g.D.Disk.faults c.args.self.now.disk) (g.D.Disk.faults c.write.new.disk) Nothing (omega (arith, c.in-Err-Failed.ensures.cause.failed (ap (λ e. Err e) c.in-Err-Failed.field-0-is))))
     (keeps-before (Fault Nothing) refl)
 
 pub returns-in-Err-Memory-clause-goes : goal.returns-in-Err-Memory-clause-goes

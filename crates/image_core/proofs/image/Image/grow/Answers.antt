@@ -1,0 +1,54 @@
+use Rattle.std.proofs.Common.{◌≡◌, ◌+◌, ◌∙◌, refl, arith}
+use Rattle.sector_extent.specs.CauseLaws.{calm_ok}
+use Rattle.flat_image.specs.declared.act.Act.TheVariants.{Fault}
+use Rattle.flat_image.specs.declared.act.Asked.TheVariants.{Sectors}
+use Rattle.flat_image.specs.History.{now}
+use Rattle.top_writer.specs.Stands.{unchanged, just_this, this_too}
+use Rattle.image_core.specs.declared.growing.GrowFault.TheVariants as grows
+use Rattle.image_core.specs.Seen.{Seen, seen, with_disk}
+use Rattle.image_core.proofs.FaultCounts.{value_no_fault}
+use Rattle.image_core.proofs.Grows.{grow-failed, grow-done}
+use Rattle.image_core.proofs.StepGoes.{IsSameBesides, fits-after, goes-not, goes-noted, counts-fault, keeps-unflushed}
+use Rattle.image_core.proofs.image.Image.grow.Goals as goal
+
+pub returns-then-sectors-own-clause-goes : goal.returns-then-sectors-own-clause-goes
+returns-then-sectors-own-clause-goes g c = goes-not (seen g.D.Disk c.args.self.now) (λ files left. g.met.D.Disk.now_at c.args.self.now.disk files left)
+
+pub returns-in-Err-clause-goes : goal.returns-in-Err-clause-goes
+returns-in-Err-clause-goes g c =
+    goes-noted (seen g.D.Disk c.args.self.now) (with_disk g.D.Disk c.flush.new.disk (record c.args.self.now.parts { top = c.flush.new.self; steps = c.args.self.now.parts.steps + 1 }))
+    unchanged this_too (Fault (Sectors c.args.sectors)) (record { manifest = refl; lowers = refl; snapshot = refl }) refl refl c.in-Err.ensures.err refl (λ b. refl) (λ b is. tt)
+    (counts-fault (g.D.Disk.faults c.args.self.now.disk) (g.D.Disk.faults c.flush.new.disk) (Sectors c.args.sectors) (omega (arith, c.in-Err.ensures.cause.failed refl)))
+    (keeps-unflushed (Sectors c.args.sectors))
+
+pub set-requires-clause-kept : goal.set-requires-clause-kept
+set-requires-clause-kept g c =
+    let (base, history, k) = c.requires.standing in
+    let x : Seen = seen g.D.Disk c.args.self.now in
+    let y : Seen = with_disk g.D.Disk c.flush.new.disk (record c.args.self.now.parts { top = c.flush.new.self }) in
+    (fits-after x y unchanged just_this (record { manifest = refl; lowers = refl; snapshot = refl }) refl c.in-Ok.ensures.ok (now base history) k.tops k.attempts k.fits).manifest
+
+pub returns-in-Ok-set-clause-goes : goal.returns-in-Ok-set-clause-goes
+returns-in-Ok-set-clause-goes g c =
+    let x : Seen = seen g.D.Disk c.args.self.now in
+    let y : Seen = with_disk g.D.Disk c.flush.new.disk (record c.args.self.now.parts { top = c.flush.new.self }) in
+    let z : Seen = with_disk g.D.Disk c.set.new.disk (record c.args.self.now.parts { manifest = c.set.new.self; top = c.grow.new.self; steps = c.args.self.now.parts.steps + 1 }) in
+    grow-done x y (record { manifest = refl; lowers = refl; snapshot = refl }) refl c.in-Ok.ensures.ok c.args.sectors c.new_body.result c.new_body.ensures
+    (omega (arith, c.sectors-own.ensures, c.if-sectors-own.false)) c.requires.few z refl refl refl refl c.set.ensures.any_moment c.set.ensures.kept
+    c.in-Ok-set.ensures.ok c.in-Ok-set.ensures.ok_bodies c.grow.ensures (omega (arith, c.flush.ensures.cause.later, c.set.ensures.cause.later))
+
+pub returns-in-Ok-set-clause-cause : goal.returns-in-Ok-set-clause-cause
+returns-in-Ok-set-clause-cause g c =
+    let count = g.D.Disk.faults in
+    let same : count c.set.new.disk ≡ count c.args.self.now.disk =
+    calm_ok count c.flush.new.disk c.set.new.disk c.in-Ok-set.ensures.cause ∙ calm_ok count c.args.self.now.disk c.flush.new.disk c.in-Ok.ensures.cause in
+    record { later = omega (arith, same); failed = λ is. absurd (value_no_fault tt grows.Failed is); only = λ rose. absurd (omega (arith, same, rose)) }
+
+pub returns-in-Err-set-clause-goes : goal.returns-in-Err-set-clause-goes
+returns-in-Err-set-clause-goes g c =
+    let x : Seen = seen g.D.Disk c.args.self.now in
+    let y : Seen = with_disk g.D.Disk c.flush.new.disk (record c.args.self.now.parts { top = c.flush.new.self }) in
+    let z : Seen = with_disk g.D.Disk c.set.new.disk (record c.args.self.now.parts { manifest = c.set.new.self; top = c.flush.new.self; steps = c.args.self.now.parts.steps + 1 }) in
+    grow-failed x y (record { manifest = refl; lowers = refl; snapshot = refl }) refl c.in-Ok.ensures.ok c.args.sectors c.new_body.result c.new_body.ensures
+    (omega (arith, c.sectors-own.ensures, c.if-sectors-own.false)) c.requires.few z refl refl refl refl c.set.ensures.any_moment c.set.ensures.kept
+    c.in-Err-set.ensures.err.0 c.in-Err-set.ensures.err_bodies refl (omega (arith, c.flush.ensures.cause.later, c.in-Err-set.ensures.cause.failed refl))
