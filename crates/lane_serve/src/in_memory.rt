@@ -1,11 +1,11 @@
 //! A listener in memory, for tests.
-ghost use Rattle.std.specs.Prelude.{◌≡◌, ◌<◌, [], IsErr};
-ghost use Rattle.lane_serve.specs.InMemory.{fresh_listener};
+ghost use Rattle.std.specs.Prelude.{◌≡◌, ◌+◌, ◌^◌, ◌<◌, ◌≤◌, length, vec_capacity, IfOk};
+ghost use Rattle.lane_serve.specs.InMemory.{source_of, sink_of, new_listener};
 
 use crate::listener::{ListenFailed, Listener};
 use byte_ports::{MemSink, MemSource};
 use sector_extent::{Bytes, CallList, CallPlan, FaultCount, FileTexts, ListOf};
-use std::alloc::Global;
+use std::alloc::{AllocError, Global};
 use std::marker::Model;
 
 /// A connection that was taken back, with its end.
@@ -30,6 +30,112 @@ pub struct MemListener<E> {
     taken: Vec<TakenBack<E>>,
     plan: CallPlan,
     faults: FaultCount,
-    ghost within: { given ≤ length connections },
-    ghost room: { given ≤ vec_capacity taken },
+}
+
+impl<E> Model for MemListener<E> {
+    ghost use Rattle.std.specs.Prelude.{◌≤◌, length, vec_capacity};
+    ghost use Rattle.lane_serve.specs.InMemory.{ListenerState};
+
+    ghost Value = { ListenerState E };
+
+    ghost view = { λ s. record {
+      connections = s.connections;
+      count = s.given;
+      ended = s.ended;
+      back = s.taken.items;
+      faults = s.faults.count;
+    } };
+
+    ghost invariant = { λ s. (s.given ≤ length s.connections) × (length s.taken.items ≤ s.given)
+        × (s.given ≤ vec_capacity s.taken) };
+}
+
+impl<E> MemListener<E> {
+    /// The calls of `accept` whose numbers, from 0, are in `failing` fail.
+    pub fn new(alloc: Global, connections: FileTexts, failing: CallList) -> MemListener<E>
+        ensures { result ≡ new_listener connections }
+    {
+        MemListener {
+            alloc,
+            connections,
+            given: 0,
+            ended: false,
+            taken: Vec::new(alloc),
+            plan: CallPlan::new(failing),
+            faults: FaultCount::new(),
+        }
+    }
+
+    pub fn into_taken(self) -> TakenList<E>
+        ensures { result ≡ self.back }
+    {
+        ListOf::from_vec(self.taken)
+    }
+}
+
+// A source of these bytes, and an empty sink. No call of them is named to fail.
+fn connection(alloc: Global, bytes: &[u8]) -> Result<(MemSource, MemSink), AllocError>
+    ensures { IfOk result (λ made. (made.0 ≡ source_of bytes.now) × (made.1 ≡ sink_of)) }
+{
+    let bytes = Bytes::from_vec(Vec::from_slice(alloc, bytes)?);
+    let source = MemSource::new(bytes, CallList::from_vec(Vec::new(alloc)));
+    let sink = MemSink::new(alloc, CallList::from_vec(Vec::new(alloc)));
+    Ok((source, sink))
+}
+
+// Makes room for one connection more than were given to come back.
+fn make_room<E>(taken: &mut Vec<TakenBack<E>>, given: usize) -> Result<(), AllocError>
+    requires back { length taken.old.items ≤ given }
+    requires few { given + 1 < 2 ^ 64 }
+    ensures items { taken.new.items ≡ taken.old.items }
+    ensures more { vec_capacity taken.old ≤ vec_capacity taken.new }
+    ensures room { IfOk result (λ _. given + 1 ≤ vec_capacity taken.new) }
+{
+    let wanted = given - taken.len() + 1;
+    taken.reserve(wanted)?;
+    Ok(())
+}
+
+impl<E> Listener for MemListener<E> {
+    type A = MemSource;
+    type B = MemSink;
+    type E = E;
+
+    ghost use Rattle.std.specs.Prelude.{Some};
+    ghost use Rattle.lane_serve.specs.InMemory.{told_by};
+
+    ghost faults = { λ s. s.faults };
+
+    ghost told = { λ s. Some (told_by s) };
+
+    /// Fails where the call was named to, and where it finds no memory.
+    fn accept(&mut self) -> Result<Option<(MemSource, MemSink)>, ListenFailed> {
+        if self.plan.next_fails() {
+            self.faults.raise();
+            return Err(ListenFailed);
+        }
+        if self.given == self.connections.as_slice().len() {
+            self.ended = true;
+            return Ok(None);
+        }
+        if make_room(&mut self.taken, self.given).is_err() {
+            self.faults.raise();
+            return Err(ListenFailed);
+        }
+        let bytes = self.connections.as_slice()[self.given].as_slice();
+        match connection(self.alloc, bytes) {
+            Ok(made) => {
+                self.given += 1;
+                Ok(Some(made))
+            }
+            Err(_) => {
+                self.faults.raise();
+                Err(ListenFailed)
+            }
+        }
+    }
+
+    fn finish(&mut self, source: MemSource, sink: MemSink, end: E) {
+        self.taken.push_reserved(TakenBack { source, sink, end });
+    }
 }

@@ -1,0 +1,125 @@
+-- What lanes do in threads, and what it comes to.
+use Rattle.flat_image.specs.declared.act.Act.TheVariants.{Fault}
+use Rattle.flat_image.specs.declared.act.Asked.TheVariants.{Nothing}
+use Rattle.flat_image.specs.declared.base.Base.{Base}
+use Rattle.flat_image.specs.declared.port_fault.PortFault.{PortFault}
+use Rattle.flat_image.specs.declared.port_fault.PortFault.TheVariants as fault
+use Rattle.image_core.specs.Seen.{Seen, StandsFor}
+use Rattle.lane_export.specs.declared.export_end.ExportEnd.{ExportEnd}
+use Rattle.lane_export.specs.declared.export_end.ExportEnd.TheVariants as export_end
+use Rattle.std.specs.Prelude.{◌||◌, true, ◌≡◌, ℕ, ◌^◌, ◌<◌, Bool, false, List, [], ◌∷◌, ◌++◌, length, slice_index_or, Option, All, Result, Ok, Err}
+use Rattle.atomic_table.specs.Seated.{TableId}
+use Rattle.flat_image.specs.declared.act.Act.{Act}
+use Rattle.flat_image.specs.declared.act.Act.TheVariants.{Flush}
+use Rattle.flat_image.specs.Entries.{entry, calls_by, StartsWith}
+use Rattle.flat_image.specs.History.{History}
+use Rattle.flat_image.specs.Ports.{PortState}
+use Rattle.turn_lock.specs.Locks.{Lock, Place, place}
+use Rattle.nbd_session.specs.declared.served.Served.{Served}
+use Rattle.shared_image.specs.Turns.{seat_port}
+use Rattle.image_read.specs.Reading.{IsSeatOf}
+use Rattle.lane_serve.specs.declared.lane.LaneEnd.{LaneEnd}
+use Rattle.lane_serve.specs.declared.lane.LaneEnd.TheVariants as end_is
+use Rattle.lane_serve.specs.Listeners.{Listening}
+use Rattle.lane_serve.specs.Lanes.{Ways, Runs}
+
+-- a lane at one moment: its port, what its listener tells, and that one's count of faults
+pub record Member (A B : Type 0) : Type 0 where
+  pub port : PortState
+  pub told : Option (Listening A B Served)
+  pub faults : ℕ
+
+-- what a lane did
+abbrev pub LaneRan : {A B : Type 0} → Ways A B → Member A B → Member A B → ℕ → LaneEnd → Type 0
+LaneRan w old new connections end = Runs w old.told old.faults old.port new.told new.faults new.port connections end
+
+-- a lane whose listener failed, and some lane of these
+abbrev pub is_failed : LaneEnd → Bool
+is_failed end_is.NoMore = false
+is_failed end_is.Enough = false
+is_failed end_is.Failed = true
+
+abbrev pub any_failed : List LaneEnd → Bool
+any_failed [] = false
+any_failed (end ∷ ends) = is_failed end || any_failed ends
+
+-- the port of a lane with that number, before it did anything
+abbrev pub first_port : Bool → Lock Base → ℕ → ℕ → PortState
+first_port tells lock number shelf = seat_port tells lock (place lock.id number [] false) shelf
+
+-- seats of a lock, by number from 0 on, that have seen nothing
+abbrev pub AreFirst : TableId → List (Place Act) → Type 0
+AreFirst lock seats = (k : ℕ) (d : Place Act) → k < length seats → slice_index_or seats k d ≡ place lock k [] false
+
+-- each lane has the port of the pair at its place, by number, and its listener
+abbrev pub AreDealt : {P X L : Type 0} → (X → PortState) → (X → L) → (ℕ → P → PortState) → (P → L) → List P → List X → Type 0
+AreDealt {P} {X} port listener first its pairs lanes =
+    (k : ℕ) (e : P) (d : X) → k < length pairs → (port (slice_index_or lanes k d) ≡ first k (slice_index_or pairs k e)) × (listener (slice_index_or lanes k d) ≡ its (slice_index_or pairs k e))
+
+-- each seat is that of the lane's port at its place, and all of it was seen
+pub record AreGathered {X : Type 0} (port : X → PortState) (seen : History) (lanes : List X) (seats : List (Place Act)) : Type 0 where
+  pub count : length seats ≡ length lanes
+  pub each : (k : ℕ) (d : X) (e : Place Act) → k < length lanes → (shelf : ℕ) × IsSeatOf (port (slice_index_or lanes k d)) (slice_index_or seats k e) shelf
+  pub met : All (λ seat. StartsWith seen seat.seen) seats
+
+-- A lane is done: it ran from this port and this listener, whose connections and faults are these now, and this seat is
+-- that of its port.
+pub record LaneDone {A B : Type 0} (w : Ways A B) (old : Member A B) (told : Option (Listening A B Served)) (faults : ℕ) (seat : Place Act) (connections : ℕ) (end : LaneEnd) : Type 0 where
+  pub port : PortState
+  pub ran : LaneRan w old (record { port = port; told = told; faults = faults }) connections end
+  pub shelf : ℕ
+  pub seat_is : IsSeatOf port seat shelf
+
+-- And what it comes to once the lock is closed over this history: the lane saw a beginning of it, and noted all entries of
+-- its number there.
+pub record LaneIn {A B : Type 0} (w : Ways A B) (history : History) (old : Member A B) (told : Option (Listening A B Served)) (faults : ℕ) (connections : ℕ) (end : LaneEnd) : Type 0 where
+  pub port : PortState
+  pub ran : LaneRan w old (record { port = port; told = told; faults = faults }) connections end
+  pub begun : StartsWith history port.seen
+  pub own : calls_by old.port.number history ≡ calls_by old.port.number port.seen
+
+-- how an export ends, by whether a listener has failed and by the last flush
+abbrev pub end_by : {T : Type 0} → Bool → Result T PortFault → ExportEnd
+end_by true last = export_end.ListenerFailed
+end_by false (Ok done) = export_end.Flushed
+end_by false (Err fault.Worn) = export_end.Worn
+end_by false (Err (fault.Full rows sectors)) = export_end.FlushFailed
+end_by false (Err fault.Memory) = export_end.FlushFailed
+end_by false (Err fault.Failed) = export_end.FlushFailed
+
+-- the last entry is that act of the caller with that number
+abbrev pub EndsWith : History → ℕ → Act → Type 0
+EndsWith history number act = (before : History) × (history ≡ before ++ entry number act ∷ [])
+
+-- why an export ended so: the control flushed last; a listener failed; the control's last flush failed; or the history is
+-- full. The fault of a listener comes first
+abbrev pub WhyEnded : List LaneEnd → History → ℕ → ExportEnd → Type 0
+WhyEnded ends history control export_end.Flushed = (any_failed ends ≡ false) × EndsWith history control Flush
+WhyEnded ends history control export_end.ListenerFailed = any_failed ends ≡ true
+WhyEnded ends history control export_end.FlushFailed = (any_failed ends ≡ false) × EndsWith history control (Fault Nothing)
+WhyEnded ends history control export_end.Worn = (any_failed ends ≡ false) × (length history ≡ 2 ^ 62)
+WhyEnded ends history control export_end.Memory = ⊥
+
+-- The lanes were served. There is one history, for which the image stands over the base. The lanes' numbers are those of
+-- their places, the control's is their number, and no others have entries.
+pub record HasServed {P A B : Type 0} (w : Ways A B) (base : Base) (tells : P → Bool) (shelf : P → ℕ) (told : P → Option (Listening A B Served)) (faults : P → ℕ) (old new : List P) (connections : ℕ) (image : Seen) (end : ExportEnd) : Type 0 where
+  pub lock : Lock Base
+  pub base_is : lock.base ≡ base
+  pub first_is : lock.first ≡ 0
+  pub history : History
+  pub stands : StandsFor image base history
+  pub ends : List LaneEnd
+  pub many : length ends ≡ length old
+  pub lanes : (k : ℕ) (e f : P) (d : LaneEnd) → k < length old → LaneIn w history
+      (record { port = first_port (tells (slice_index_or old k e)) lock k (shelf (slice_index_or old k e)); told = told (slice_index_or old k e); faults = faults (slice_index_or old k e) })
+      (told (slice_index_or new k f)) (faults (slice_index_or new k f)) connections (slice_index_or ends k d)
+  pub others : (k : ℕ) → length old < k → calls_by k history ≡ []
+  pub why : WhyEnded ends history (length old) end
+
+-- an export of an image. Where memory was wanting, nothing was served and nothing noted, and all lanes are as they were
+abbrev pub Exports : {P A B : Type 0} → Ways A B → Base → (P → Bool) → (P → ℕ) → (P → Option (Listening A B Served)) → (P → ℕ) → List P → List P → ℕ → Seen → ExportEnd → Type 0
+Exports w base tells shelf told faults old new connections image export_end.Flushed = HasServed w base tells shelf told faults old new connections image export_end.Flushed
+Exports w base tells shelf told faults old new connections image export_end.ListenerFailed = HasServed w base tells shelf told faults old new connections image export_end.ListenerFailed
+Exports w base tells shelf told faults old new connections image export_end.FlushFailed = HasServed w base tells shelf told faults old new connections image export_end.FlushFailed
+Exports w base tells shelf told faults old new connections image export_end.Worn = HasServed w base tells shelf told faults old new connections image export_end.Worn
+Exports w base tells shelf told faults old new connections image export_end.Memory = StandsFor image base [] × (new ≡ old)
