@@ -21,8 +21,8 @@ use Rattle.image_core.specs.Numbers.{manifest_file}
 use Rattle.image_core.specs.Loading.{AreStackOrNone}
 use Rattle.image_core.specs.Opening.{lowers_from}
 use Rattle.image_core.specs.Creating.{AreLegal, fresh_at}
-use Rattle.tool_setup.specs.declared.words.Command.{Command}
-use Rattle.tool_setup.specs.declared.words.Command.TheVariants.{Create}
+use Rattle.tool_setup.specs.declared.command.Command.{Command}
+use Rattle.tool_setup.specs.declared.command.Command.TheVariants.{Create}
 use Rattle.layer_commands.specs.declared.refusal.Refusal.{Refusal}
 use Rattle.layer_commands.specs.declared.refusal.Refusal.TheVariants as refused
 use Rattle.image_core.specs.Seen.{Seen, StandsFor}

@@ -10,7 +10,7 @@ use Rattle.layer_shelf.specs.Shelves.{file_at}
 use Rattle.flat_image.specs.LayerFiles.{LayerOf}
 use Rattle.sealed_layer.specs.Layers.{LayerIndex}
 use Rattle.sealed_layer.specs.LayerFaults.{IsLayerFault}
-use Rattle.tool_setup.specs.declared.words.Command.TheVariants.{Flatten}
+use Rattle.tool_setup.specs.declared.command.Command.TheVariants.{Flatten}
 use Rattle.layer_commands.specs.declared.refusal.Refusal.{Refusal}
 use Rattle.layer_commands.specs.declared.refusal.Refusal.TheVariants as refused
 use Rattle.layer_commands.specs.Prints.{AreShort, Prints}

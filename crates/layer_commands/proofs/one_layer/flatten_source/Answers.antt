@@ -1,7 +1,7 @@
 use Rattle.std.proofs.Common.{◌∙◌, ◌^◌, ◌≤◌, [], ◌∷◌, length, ap, arith}
 use Rattle.std.specs.Prelude.{Some, Err}
 use Rattle.std.proofs.lemmas.Result.{on_ok_weaker}
-use Rattle.tool_setup.specs.declared.words.Command.TheVariants.{Flatten}
+use Rattle.tool_setup.specs.declared.command.Command.TheVariants.{Flatten}
 use Rattle.std.specs.Prelude.{true}
 use Rattle.layer_commands.specs.Causes.{Cause}
 use Rattle.layer_commands.specs.Ports.{source_ports}
