@@ -330,6 +330,7 @@ fn each_fault_of_an_image_is_told(rt: HostRuntime) -> Result<(), Fail> {
     ];
     for (file, at, bytes, line) in cases {
         let mut disk = image_of_8(&rt, alloc)?;
+        assert!(rt; at < 8192 && bytes.len() < 8192);
         let _ = disk.write_at(file, at, bytes);
         let none = Vec::new(alloc);
         let (status, note, _) = answer(

@@ -118,7 +118,8 @@ fn run_words<A: Source, B: Sink, D: Disk, S: Shelf>(
         (ports_of A.Source B.Sink S.Shelf source.new out.new shelf.new)
         (disk_port D.Disk disk) (disk_port D.Disk result.1) (λ refusal. IsErrOf result.0 (Other refusal)) }
     ensures missing { AreMissing (asked (map string_bytes words.now)) (S.count shelf.old)
-        → (IsErrOf result.0 (Other refused.NoLayer) ⊎ IsErrOf result.0 (Other refused.Memory)) × (shelf.new ≡ shelf.old) }
+        → (IsErrOf result.0 (Other refused.NoLayer) ⊎ IsErrOf result.0 (Other refused.Memory))
+        × (shelf.new ≡ shelf.old) }
     ensures within { TakesAtMost (A.left source.old) (A.left source.new)
         (most_of (asked (map string_bytes words.now))) }
 {

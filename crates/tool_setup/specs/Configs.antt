@@ -25,7 +25,7 @@ abbrev pub disk_in : Data → Result (List ℕ) ConfigFault
 disk_in value = disk_of (get (codes "disk") value)
 
 -- the fields of an object in their order, the first that is missing or not of its form refused
-unfoldable pub fields_in : Data → Result Config ConfigFault
+abbrev pub fields_in : Data → Result Config ConfigFault
 fields_in value =
     and_then (disk_in value) (λ disk.
     and_then (lowers_or (get (codes "lowers") value)) (λ lowers.
@@ -36,8 +36,14 @@ fields_in value =
     and_then (text_or field.Listen (codes "127.0.0.1:10809") (get (codes "listen") value)) (λ listen.
     and_then (text_or field.Control (codes "127.0.0.1:10810") (get (codes "control") value)) (λ control.
     Ok (record {
-      disk = disk; lowers = lowers; export = export; read_only = read_only; cache_blocks = cache_blocks; lanes = lanes;
-      listen = listen; control = control;
+      disk = disk;
+      lowers = lowers;
+      export = export;
+      read_only = read_only;
+      cache_blocks = cache_blocks;
+      lanes = lanes;
+      listen = listen;
+      control = control;
     })))))))))
 
 abbrev pub object_in : Option Members → Data → Result Config ConfigFault

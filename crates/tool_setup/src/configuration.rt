@@ -61,7 +61,7 @@ fn read_disk(alloc: Global, value: &Value) -> Result<Bytes, ConfigFault>
     }
 }
 
-#[tactic(auto, using(crate::proofs::Exits::gives_exit, crate::proofs::Exits::gives_then, crate::proofs::Exits::gives_same), unfolding(crate::specs::Configs::fields_in))]
+#[tactic(auto, using(crate::proofs::Exits::gives_exit, crate::proofs::Exits::gives_then))]
 fn read_fields(alloc: Global, value: &Value) -> Result<Config, ConfigFault>
     ensures { Gives Memory (fields_in (view value.now)) result }
 {
@@ -72,7 +72,12 @@ fn read_fields(alloc: Global, value: &Value) -> Result<Config, ConfigFault>
     let cache_blocks = read_number(Field::CacheBlocks, value.get("cache_blocks"), 16_384, 1_024)?;
     let lanes = read_number(Field::Lanes, value.get("lanes"), 16, 2)?;
     let listen = read_text_or(alloc, Field::Listen, value.get("listen"), "127.0.0.1:10809")?;
-    let control = read_text_or(alloc, Field::Control, value.get("control"), "127.0.0.1:10810")?;
+    let control = read_text_or(
+        alloc,
+        Field::Control,
+        value.get("control"),
+        "127.0.0.1:10810",
+    )?;
     Ok(Config {
         disk,
         lowers,

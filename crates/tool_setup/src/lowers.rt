@@ -29,7 +29,11 @@ pub fn read_lowers(alloc: Global, value: Option<&Value>) -> Result<Lowers, Confi
     }
 }
 
-fn read_form(alloc: Global, value: &Value, members: &Map<String, Value>) -> Result<Lowers, ConfigFault>
+fn read_form(
+    alloc: Global,
+    value: &Value,
+    members: &Map<String, Value>,
+) -> Result<Lowers, ConfigFault>
     requires { Some (members_view members.now.entries) ≡ as_object (view value.now) }
     ensures { Gives Memory (lowers_in (members_view members.now.entries)) result }
 {

@@ -11,7 +11,8 @@ use std::alloc::Global;
 // The matches of a command, where it takes the words.
 fn parse<'a>(command: Command<'a>, words: &'a [String]) -> Result<ArgMatches<'a>, WordsFault>
     requires { is_simple_and_free (app_of command) ≡ true }
-    ensures { Takes (app_of command.entry) (map string_bytes words.now) (λ rows found. rows ≡ rows_of (found_of found)) result }
+    ensures { Takes (app_of command.entry) (map string_bytes words.now)
+        (λ rows found. rows ≡ rows_of (found_of found)) result }
 {
     match command.try_get_matches_from(words) {
         Ok(matches) => Ok(matches),
@@ -59,7 +60,8 @@ pub fn parse_flag<'a>(
     flag: &'a str,
     words: &'a [String],
 ) -> Result<bool, WordsFault>
-    ensures { Takes (flagged name.now flag.now) (map string_bytes words.now) (λ rows found. found ≡ is_set flag.now rows) result }
+    ensures { Takes (flagged name.now flag.now) (map string_bytes words.now)
+        (λ rows found. found ≡ is_set flag.now rows) result }
 {
     let argument = Arg::new(alloc, flag).long(flag).action(ArgAction::SetTrue);
     let command = Command::new(alloc, name)

@@ -1,5 +1,6 @@
-use crate::{Arg, Command, Config, ConfigFault, Field, Lowers, WordList, WordsFault};
-use crate::{read_config, read_words};
+use crate::{
+    Arg, Command, Config, ConfigFault, Field, Lowers, WordList, WordsFault, read_config, read_words,
+};
 use std::alloc::{AllocError, Global};
 use std::test::Fail;
 
@@ -58,10 +59,7 @@ const READ: [(&str, Command); 20] = [
             connections: 1000000,
         },
     ),
-    (
-        "export --connections=1",
-        Command::Export { connections: 1 },
-    ),
+    ("export --connections=1", Command::Export { connections: 1 }),
 ];
 
 const REFUSED: [(&str, WordsFault); 45] = [
@@ -131,10 +129,18 @@ const REFUSED: [(&str, WordsFault); 45] = [
 fn words_are_read_or_refused(rt: HostRuntime) -> Result<(), Fail> {
     let alloc = rt.alloc();
     for (line, command) in READ {
-        assert_eq!(rt; read_words(alloc, &words_of(alloc, line)?), Ok(command), "{line}");
+        assert_eq!(rt;
+            read_words(alloc, &words_of(alloc, line)?),
+            Ok(command),
+            "{line}"
+        );
     }
     for (line, fault) in REFUSED {
-        assert_eq!(rt; read_words(alloc, &words_of(alloc, line)?), Err(fault), "{line}");
+        assert_eq!(rt;
+            read_words(alloc, &words_of(alloc, line)?),
+            Err(fault),
+            "{line}"
+        );
     }
     let none = WordList::from_vec(Vec::new(alloc));
     assert_eq!(rt; read_words(alloc, &none), Err(WordsFault::NoCommand));
@@ -301,13 +307,26 @@ fn nested(alloc: Global, depth: usize) -> Result<Vec<u8>, AllocError> {
 fn configurations_are_read_or_refused(rt: HostRuntime) -> Result<(), Fail> {
     let alloc = rt.alloc();
     for (text, fault) in BAD {
-        assert_eq!(rt; fault_of(read_config(alloc, text.as_bytes())), Some(fault), "{text}");
+        assert_eq!(rt;
+            fault_of(read_config(alloc, text.as_bytes())),
+            Some(fault),
+            "{text}"
+        );
     }
     let deep = nested(alloc, 127)?;
     let deeper = nested(alloc, 128)?;
-    assert_eq!(rt; fault_of(read_config(alloc, deep.as_slice())), Some(ConfigFault::NotObject));
-    assert_eq!(rt; fault_of(read_config(alloc, deeper.as_slice())), Some(ConfigFault::NotJson));
-    assert_eq!(rt; fault_of(read_config(alloc, b"\xFF")), Some(ConfigFault::NotJson));
+    assert_eq!(rt;
+        fault_of(read_config(alloc, deep.as_slice())),
+        Some(ConfigFault::NotObject)
+    );
+    assert_eq!(rt;
+        fault_of(read_config(alloc, deeper.as_slice())),
+        Some(ConfigFault::NotJson)
+    );
+    assert_eq!(rt;
+        fault_of(read_config(alloc, b"\xFF")),
+        Some(ConfigFault::NotJson)
+    );
     let least = read_config(alloc, b"{\"disk\":\"\",\"disk\":\"d\"}").map_err(|_| "refused")?;
     assert_eq!(rt; least.disk.as_slice(), b"d".as_slice());
     assert_eq!(rt; least.export.as_slice().len(), 0);
@@ -324,7 +343,8 @@ fn configurations_are_read_or_refused(rt: HostRuntime) -> Result<(), Fail> {
 
 #[test]
 fn each_field_is_read(rt: HostRuntime) -> Result<(), Fail> {
-    let text = b"{ \"disk\": \"d\", \"lowers\": {\"host\": \"h:80\", \"paths\": [\"/a\", \"/b\"]}, \"export\": \"img\",
+    let text =
+        b"{ \"disk\": \"d\", \"lowers\": {\"host\": \"h:80\", \"paths\": [\"/a\", \"/b\"]}, \"export\": \"img\",
         \"read_only\": true, \"cache_blocks\": 16384, \"lanes\": 16, \"listen\": \"[::1]:1\", \"control\": \"c:2\" }";
     let config = read_config(rt.alloc(), text).map_err(|_| "refused")?;
     assert_eq!(rt; config.export.as_slice(), b"img".as_slice());
