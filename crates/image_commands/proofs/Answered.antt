@@ -7,7 +7,7 @@ use Rattle.layer_commands.specs.declared.refusal.Refusal.{Refusal}
 use Rattle.layer_commands.proofs.Charged.{charges_as}
 use Rattle.image_commands.specs.declared.refusal.ImageRefusal.{ImageRefusal}
 use Rattle.image_commands.specs.declared.refusal.ImageRefusal.TheVariants.{Other}
-use Rattle.tool_setup.specs.declared.words.Command.{Command}
+use Rattle.tool_setup.specs.declared.command.Command.{Command}
 use Rattle.layer_commands.specs.Ports.{Ports}
 use Rattle.layer_commands.specs.declared.refusal.Refusal.TheVariants as refused
 use Rattle.image_commands.specs.Images.{DiskPort}

@@ -14,8 +14,8 @@ use Rattle.image_core.specs.Shows.{Shows}
 use Rattle.image_core.specs.View.{AreLayersOf}
 use Rattle.image_core.proofs.ShownBase.{shows-one_base}
 use Rattle.image_core.proofs.Reopening.{reopens}
-use Rattle.tool_setup.specs.declared.words.Command.{Command}
-use Rattle.tool_setup.specs.declared.words.Command.TheVariants.{Flatten, Info, Stack, Create, Read, Write, Zero}
+use Rattle.tool_setup.specs.declared.command.Command.{Command}
+use Rattle.tool_setup.specs.declared.command.Command.TheVariants.{Flatten, Info, Stack, Create, Grow, Read, Write, Zero, Commit, Sweep, Make, Export}
 use Rattle.layer_commands.specs.declared.refusal.Refusal.{Refusal}
 use Rattle.layer_commands.specs.declared.refusal.Refusal.TheVariants as refused
 use Rattle.layer_commands.specs.Prints.{LayerSheet, AreLayers, heads_of, sectors_of}
@@ -78,6 +78,11 @@ past-clear (Write at) before now disk disk_now clear past =
 past-clear (Flatten stdin) before now disk disk_now clear past = clear.ready
 past-clear (Info number) before now disk disk_now clear past = clear.ready
 past-clear Stack before now disk disk_now clear past = clear.ready
+past-clear (Grow sectors) before now disk disk_now clear past = clear.ready
+past-clear (Commit uuid) before now disk disk_now clear past = clear.ready
+past-clear Sweep before now disk disk_now clear past = clear.ready
+past-clear (Make seed acts) before now disk disk_now clear past = clear.ready
+past-clear (Export connections) before now disk disk_now clear past = clear.ready
 
 full-clear : (command : Command) (before now : Ports) (disk disk_now : DiskPort) (rows sectors : ℕ) → IsClear command before now disk disk_now → IsFull command before disk disk_now rows sectors → ⊥
 full-clear (Create asked) before now disk disk_now rows sectors clear full = let e : [] ≡ kept_change full.change = full.asked in cc
@@ -92,6 +97,11 @@ full-clear (Write at) before now disk disk_now rows sectors clear full =
 full-clear (Flatten stdin) before now disk disk_now rows sectors clear full = clear.ready
 full-clear (Info number) before now disk disk_now rows sectors clear full = clear.ready
 full-clear Stack before now disk disk_now rows sectors clear full = clear.ready
+full-clear (Grow size) before now disk disk_now rows sectors clear full = clear.ready
+full-clear (Commit uuid) before now disk disk_now rows sectors clear full = clear.ready
+full-clear Sweep before now disk disk_now rows sectors clear full = clear.ready
+full-clear (Make seed acts) before now disk disk_now rows sectors clear full = clear.ready
+full-clear (Export connections) before now disk disk_now rows sectors clear full = clear.ready
 
 opened-by : (command : Command) (left : Option (List ℕ)) (files : List (List ℕ)) (layers : List LayerSheet) (disk : DiskPort) → (IsCreate command → ⊥) → IsReady command left files layers disk
     → (bytes : List ℕ) × IsOpen command files disk bytes
@@ -102,6 +112,11 @@ opened-by (Write at) left files layers disk other ready = (ready.0, ready.3)
 opened-by (Flatten stdin) left files layers disk other ready = absurd ready
 opened-by (Info number) left files layers disk other ready = absurd ready
 opened-by Stack left files layers disk other ready = absurd ready
+opened-by (Grow sectors) left files layers disk other ready = absurd ready
+opened-by (Commit uuid) left files layers disk other ready = absurd ready
+opened-by Sweep left files layers disk other ready = absurd ready
+opened-by (Make seed acts) left files layers disk other ready = absurd ready
+opened-by (Export connections) left files layers disk other ready = absurd ready
 
 load-clear : (command : Command) (before now : Ports) (disk disk_now : DiskPort) (fault : LoadFault) → IsClear command before now disk disk_now → (IsCreate command → ⊥) → HoldsNone before.files disk fault → ⊥
 load-clear command before now disk disk_now fault clear other none =

@@ -30,8 +30,8 @@ use Rattle.image_core.specs.View.{AreLayersOf}
 use Rattle.image_core.proofs.BlankLayers.{layers-blank}
 use Rattle.image_core.proofs.Created.{layer-file}
 use Rattle.image_core.specs.Creating.{AreLegal, fresh_at}
-use Rattle.tool_setup.specs.declared.words.Command.{Command}
-use Rattle.tool_setup.specs.declared.words.Command.TheVariants.{Create}
+use Rattle.tool_setup.specs.declared.command.Command.{Command}
+use Rattle.tool_setup.specs.declared.command.Command.TheVariants.{Create}
 use Rattle.layer_commands.specs.declared.refusal.Refusal.{Refusal}
 use Rattle.layer_commands.specs.declared.refusal.Refusal.TheVariants as refused
 use Rattle.image_core.specs.Seen.{Seen, StandsFor}

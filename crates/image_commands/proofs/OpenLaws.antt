@@ -18,7 +18,7 @@ use Rattle.image_core.proofs.SheetsRead.{layers-length}
 use Rattle.layer_commands.specs.Flattening.{AreTold}
 use Rattle.image_commands.specs.Images.{DiskPort, AreStackedFiles, LiesOver, Takes}
 use Rattle.image_commands.specs.ImageCauses.{IsCreate, IsPartFed, Untouched, CommandCause}
-use Rattle.tool_setup.specs.declared.words.Command.{Command}
+use Rattle.tool_setup.specs.declared.command.Command.{Command}
 use Rattle.layer_commands.specs.declared.refusal.Refusal.{Refusal}
 use Rattle.layer_commands.specs.declared.refusal.Refusal.TheVariants as refused
 use Rattle.image_commands.specs.ImageTexts.{load_cause}

@@ -5,7 +5,7 @@ use Rattle.byte_ports.proofs.Chains.{AppendsFront-more}
 use Rattle.block_disk.specs.DiskState.{Leaves}
 use Rattle.flat_image.specs.declared.base.Base.{Base}
 use Rattle.flat_image.specs.History.{History, reply}
-use Rattle.tool_setup.specs.declared.words.Command.TheVariants.{Read}
+use Rattle.tool_setup.specs.declared.command.Command.TheVariants.{Read}
 use Rattle.layer_commands.specs.declared.refusal.Refusal.{Refusal}
 use Rattle.layer_commands.specs.declared.refusal.Refusal.TheVariants as refused
 use Rattle.layer_commands.specs.Ports.{Ports}

@@ -13,8 +13,8 @@ use Rattle.flat_image.specs.Entries.{StartsWith}
 use Rattle.flat_image.specs.History as history
 use Rattle.flat_image.specs.History.{History, kept, IsOver, rows_taken, sectors_taken}
 use Rattle.image_core.specs.Shows.{Shows}
-use Rattle.tool_setup.specs.declared.words.Command.{Command}
-use Rattle.tool_setup.specs.declared.words.Command.TheVariants.{Create}
+use Rattle.tool_setup.specs.declared.command.Command.{Command}
+use Rattle.tool_setup.specs.declared.command.Command.TheVariants.{Create}
 use Rattle.layer_commands.specs.declared.refusal.Refusal.{Refusal}
 use Rattle.layer_commands.specs.declared.refusal.Refusal.TheVariants as refused
 use Rattle.layer_commands.specs.Ports.{Ports}

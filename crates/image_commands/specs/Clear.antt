@@ -7,8 +7,8 @@ use Rattle.flat_image.specs.Stacks.{Legal}
 use Rattle.gate_mark.specs.MarkFile.{mark_of}
 use Rattle.image_core.specs.Numbers.{manifest_file}
 use Rattle.image_core.specs.Shows.{Shows, IsUnworn}
-use Rattle.tool_setup.specs.declared.words.Command.{Command}
-use Rattle.tool_setup.specs.declared.words.Command.TheVariants.{Flatten, Info, Stack, Create, Read, Write, Zero}
+use Rattle.tool_setup.specs.declared.command.Command.{Command}
+use Rattle.tool_setup.specs.declared.command.Command.TheVariants.{Flatten, Info, Stack, Create, Grow, Read, Write, Zero, Commit, Sweep, Make, Export}
 use Rattle.layer_commands.specs.Prints.{LayerSheet, AreLayers, heads_of, sectors_of}
 use Rattle.layer_commands.specs.Ports.{Ports}
 use Rattle.layer_commands.specs.Causes.{IsCalm}
@@ -40,6 +40,11 @@ IsReady (Zero at count) left files layers disk = IsOpen (Zero at count) files di
 IsReady (Flatten stdin) left files layers disk = ⊥
 IsReady (Info number) left files layers disk = ⊥
 IsReady Stack left files layers disk = ⊥
+IsReady (Grow sectors) left files layers disk = ⊥
+IsReady (Commit uuid) left files layers disk = ⊥
+IsReady Sweep left files layers disk = ⊥
+IsReady (Make seed acts) left files layers disk = ⊥
+IsReady (Export connections) left files layers disk = ⊥
 
 -- Shelf and disk tell, the files are layers that form a stack, or there are none, all is ready, and no object failed.
 pub record IsClear (command : Command) (before now : Ports) (disk disk_now : DiskPort) : Type 0 where

@@ -14,8 +14,8 @@ use Rattle.image_core.specs.declared.loading.LoadFault.{LoadFault}
 use Rattle.image_core.specs.Numbers.{manifest_file}
 use Rattle.image_core.specs.View.{AreLayersOf}
 use Rattle.image_core.specs.Loading.{IsLoadReason}
-use Rattle.tool_setup.specs.declared.words.Command.{Command}
-use Rattle.tool_setup.specs.declared.words.Command.TheVariants.{Flatten, Info, Stack, Create, Read, Write, Zero}
+use Rattle.tool_setup.specs.declared.command.Command.{Command}
+use Rattle.tool_setup.specs.declared.command.Command.TheVariants.{Flatten, Info, Stack, Create, Grow, Read, Write, Zero, Commit, Sweep, Make, Export}
 use Rattle.layer_commands.specs.declared.refusal.Refusal.{Refusal}
 use Rattle.layer_commands.specs.declared.refusal.Refusal.TheVariants as refused
 use Rattle.layer_commands.specs.Prints.{LayerSheet, AreLayers, heads_of, sectors_of}
@@ -52,6 +52,11 @@ IsPartFed (Write at) before now = TakesSectors before.left now.left 33554432
 IsPartFed (Flatten stdin) before now = ⊤
 IsPartFed (Info number) before now = ⊤
 IsPartFed Stack before now = ⊤
+IsPartFed (Grow sectors) before now = ⊤
+IsPartFed (Commit uuid) before now = ⊤
+IsPartFed Sweep before now = ⊤
+IsPartFed (Make seed acts) before now = ⊤
+IsPartFed (Export connections) before now = ⊤
 IsPartFed (Create asked) before now = ⊤
 IsPartFed (Read at count) before now = ⊤
 IsPartFed (Zero at count) before now = ⊤

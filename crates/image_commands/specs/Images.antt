@@ -18,8 +18,8 @@ use Rattle.image_core.specs.Numbers.{manifest_file}
 use Rattle.image_core.specs.Shows.{Shows, IsSound, IsUnworn}
 use Rattle.image_core.specs.Creating.{fresh_at}
 use Rattle.image_core.specs.Standing.{ShowsLeft}
-use Rattle.tool_setup.specs.declared.words.Command.{Command}
-use Rattle.tool_setup.specs.declared.words.Command.TheVariants.{Flatten, Info, Stack, Create, Read, Write, Zero}
+use Rattle.tool_setup.specs.declared.command.Command.{Command}
+use Rattle.tool_setup.specs.declared.command.Command.TheVariants.{Flatten, Info, Stack, Create, Grow, Read, Write, Zero, Commit, Sweep, Make, Export}
 use Rattle.layer_commands.specs.Prints.{LayerSheet, AreLayers, heads_of}
 use Rattle.layer_commands.specs.Ports.{Ports}
 use Rattle.layer_shelf.specs.declared.shelves.Shelf as shelves
@@ -60,6 +60,11 @@ Takes (Write at) left bytes = IfSome left (λ all. bytes ≡ all) × IsInput byt
 Takes (Flatten stdin) left bytes = bytes ≡ []
 Takes (Info number) left bytes = bytes ≡ []
 Takes Stack left bytes = bytes ≡ []
+Takes (Grow sectors) left bytes = bytes ≡ []
+Takes (Commit uuid) left bytes = bytes ≡ []
+Takes Sweep left bytes = bytes ≡ []
+Takes (Make seed acts) left bytes = bytes ≡ []
+Takes (Export connections) left bytes = bytes ≡ []
 Takes (Create asked) left bytes = bytes ≡ []
 Takes (Read at count) left bytes = bytes ≡ []
 Takes (Zero at count) left bytes = bytes ≡ []
@@ -73,6 +78,11 @@ abbrev pub acts_of : Command → List ℕ → List Act
 acts_of (Flatten stdin) bytes = []
 acts_of (Info number) bytes = []
 acts_of Stack bytes = []
+acts_of (Grow sectors) bytes = []
+acts_of (Commit uuid) bytes = []
+acts_of Sweep bytes = []
+acts_of (Make seed acts) bytes = []
+acts_of (Export connections) bytes = []
 acts_of (Create asked) bytes = []
 acts_of (Read at count) bytes = []
 acts_of (Write at) bytes = kept_change (act.Write at bytes)
@@ -90,6 +100,11 @@ abbrev pub reach_of : Command → List ℕ → ℕ
 reach_of (Flatten stdin) bytes = 0
 reach_of (Info number) bytes = 0
 reach_of Stack bytes = 0
+reach_of (Grow sectors) bytes = 0
+reach_of (Commit uuid) bytes = 0
+reach_of Sweep bytes = 0
+reach_of (Make seed acts) bytes = 0
+reach_of (Export connections) bytes = 0
 reach_of (Create asked) bytes = 0
 reach_of (Read at count) bytes = at + count
 reach_of (Write at) bytes = at + sector_count bytes
@@ -129,6 +144,11 @@ abbrev pub StartsAt : Command → ℕ → DiskPort → Base → Type 0
 StartsAt (Flatten stdin) layers disk base = ⊥
 StartsAt (Info number) layers disk base = ⊥
 StartsAt Stack layers disk base = ⊥
+StartsAt (Grow sectors) layers disk base = ⊥
+StartsAt (Commit uuid) layers disk base = ⊥
+StartsAt Sweep layers disk base = ⊥
+StartsAt (Make seed acts) layers disk base = ⊥
+StartsAt (Export connections) layers disk base = ⊥
 StartsAt (Create asked) layers disk base = IsNew asked layers disk base
 StartsAt (Read at count) layers disk base = IsFound disk base
 StartsAt (Write at) layers disk base = IsFound disk base
@@ -150,6 +170,11 @@ IsPrinted (Zero at count) before disk bytes base text = text ≡ zeroed_line at 
 IsPrinted (Flatten stdin) before disk bytes base text = ⊥
 IsPrinted (Info number) before disk bytes base text = ⊥
 IsPrinted Stack before disk bytes base text = ⊥
+IsPrinted (Grow sectors) before disk bytes base text = ⊥
+IsPrinted (Commit uuid) before disk bytes base text = ⊥
+IsPrinted Sweep before disk bytes base text = ⊥
+IsPrinted (Make seed acts) before disk bytes base text = ⊥
+IsPrinted (Export connections) before disk bytes base text = ⊥
 
 -- what the command prints was written, or a front of it
 pub record Prints (command : Command) (before now : Ports) (disk : DiskPort) (bytes : List ℕ) (base : Base) : Type 0 where

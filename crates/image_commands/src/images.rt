@@ -2,7 +2,7 @@
 ghost use Rattle.std.specs.Prelude.{◌≡◌, ℕ, ◌+◌, ◌≤◌, ◌↔◌, List, Option, IsTrue, IfSome, IfErr, IsErrOf, OnOk};
 ghost use Rattle.sector_extent.specs.Causes.{Charges};
 ghost use Rattle.lsmt_header.specs.Blocks.{IsSize};
-ghost use Rattle.tool_setup.specs.declared.words.Command.TheVariants.{Create, Read, Write, Zero};
+ghost use Rattle.tool_setup.specs.declared.command.Command.TheVariants.{Create, Read, Write, Zero};
 ghost use Rattle.layer_commands.specs.declared.refusal.Refusal.TheVariants as refused;
 ghost use Rattle.layer_commands.specs.Input.{TakesSectors};
 ghost use Rattle.layer_commands.specs.Ports.{TakesAtMost, ports_of};

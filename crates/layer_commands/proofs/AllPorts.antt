@@ -2,7 +2,7 @@
 use Rattle.std.proofs.Common.{ℕ, true, false, List, [], arith}
 use Rattle.std.specs.Prelude.{Option}
 use Rattle.std.proofs.KnownBytes.{Consumes-nil}
-use Rattle.tool_setup.specs.declared.words.Command.TheVariants.{Flatten, Info, Stack}
+use Rattle.tool_setup.specs.declared.command.Command.TheVariants.{Flatten, Info, Stack}
 use Rattle.layer_commands.specs.declared.refusal.Refusal.{Refusal}
 use Rattle.layer_commands.specs.declared.refusal.Refusal.TheVariants as refused
 use Rattle.layer_commands.specs.Ports.{TakesAtMost, source_ports, shelf_ports}

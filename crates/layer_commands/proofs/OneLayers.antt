@@ -11,7 +11,7 @@ use Rattle.sealed_layer.specs.Layers.{LayerIndex}
 use Rattle.sealed_layer.specs.LayerFaults.{IsLayerFault}
 use Rattle.sealed_layer.specs.declared.fault.LayerFault.{LayerFault}
 use Rattle.sealed_layer.specs.declared.fault.LayerFault.TheVariants as f
-use Rattle.tool_setup.specs.declared.words.Command.TheVariants.{Flatten}
+use Rattle.tool_setup.specs.declared.command.Command.TheVariants.{Flatten}
 use Rattle.layer_commands.specs.declared.refusal.Refusal.{Refusal}
 use Rattle.layer_commands.specs.declared.refusal.Refusal.TheVariants as refused
 use Rattle.layer_commands.specs.Prints.{AreShort, Prints}

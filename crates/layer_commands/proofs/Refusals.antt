@@ -12,8 +12,8 @@ use Rattle.layer_stack.proofs.StackLemmas.{fault_not_legal}
 use Rattle.sealed_layer.specs.LayerFaults.{IsLayerFault}
 use Rattle.sealed_layer.proofs.LayerUnique.{no_layer_fault}
 use Rattle.sealed_layer.specs.declared.fault.LayerFault.{LayerFault}
-use Rattle.tool_setup.specs.declared.words.Command.{Command}
-use Rattle.tool_setup.specs.declared.words.Command.TheVariants.{Flatten, Info, Stack, Create, Read, Write, Zero}
+use Rattle.tool_setup.specs.declared.command.Command.{Command}
+use Rattle.tool_setup.specs.declared.command.Command.TheVariants.{Flatten, Info, Stack, Create, Grow, Read, Write, Zero, Commit, Sweep, Make, Export}
 use Rattle.layer_commands.specs.declared.refusal.Refusal.{Refusal}
 use Rattle.layer_commands.specs.declared.refusal.Refusal.TheVariants as refused
 use Rattle.layer_commands.specs.Prints.{LayerSheet, AreLayers, AreShort, heads_of, input_limit, read_by, Prints}
@@ -44,6 +44,11 @@ not_bad Stack files bytes number fault (layers, are, legal, is) bad = not_stoppe
 not_bad (Info wanted) files bytes number fault (layer, within, is, text) (same, inside, here, real) =
     not_faulty (file_at files wanted) fault layer is (subst (λ (k : ℕ). IsLayerFault (file_at files k) fault) same here) real
 not_bad (Create asked) files bytes number fault prints bad = prints
+not_bad (Grow sectors) files bytes number fault prints bad = prints
+not_bad (Commit uuid) files bytes number fault prints bad = prints
+not_bad Sweep files bytes number fault prints bad = prints
+not_bad (Make seed acts) files bytes number fault prints bad = prints
+not_bad (Export connections) files bytes number fault prints bad = prints
 not_bad (Read at count) files bytes number fault prints bad = prints
 not_bad (Write at) files bytes number fault prints bad = prints
 not_bad (Zero at count) files bytes number fault prints bad = prints
@@ -63,6 +68,11 @@ not_stack Stack files told left bytes fault read (layers, are, legal, is) reads 
 not_stack (Flatten true) files told left bytes fault read prints reads bad = reads
 not_stack (Info number) files told left bytes fault read prints reads bad = reads
 not_stack (Create asked) files told left bytes fault read prints reads bad = reads
+not_stack (Grow sectors) files told left bytes fault read prints reads bad = reads
+not_stack (Commit uuid) files told left bytes fault read prints reads bad = reads
+not_stack Sweep files told left bytes fault read prints reads bad = reads
+not_stack (Make seed acts) files told left bytes fault read prints reads bad = reads
+not_stack (Export connections) files told left bytes fault read prints reads bad = reads
 not_stack (Read at count) files told left bytes fault read prints reads bad = reads
 not_stack (Write at) files told left bytes fault read prints reads bad = reads
 not_stack (Zero at count) files told left bytes fault read prints reads bad = reads
@@ -79,6 +89,11 @@ not_long (Flatten false) files told left bytes read prints reads long = reads
 not_long (Info number) files told left bytes read prints reads long = reads
 not_long Stack files told left bytes read prints reads long = reads
 not_long (Create asked) files told left bytes read prints reads long = reads
+not_long (Grow sectors) files told left bytes read prints reads long = reads
+not_long (Commit uuid) files told left bytes read prints reads long = reads
+not_long Sweep files told left bytes read prints reads long = reads
+not_long (Make seed acts) files told left bytes read prints reads long = reads
+not_long (Export connections) files told left bytes read prints reads long = reads
 not_long (Read at count) files told left bytes read prints reads long = reads
 not_long (Zero at count) files told left bytes read prints reads long = reads
 
@@ -90,6 +105,11 @@ not_missing (Info wanted) files told left bytes count read counted (layer, withi
 not_missing (Flatten stdin) files told left bytes count read counted prints missing = missing
 not_missing Stack files told left bytes count read counted prints missing = missing
 not_missing (Create asked) files told left bytes count read counted prints missing = missing
+not_missing (Grow sectors) files told left bytes count read counted prints missing = missing
+not_missing (Commit uuid) files told left bytes count read counted prints missing = missing
+not_missing Sweep files told left bytes count read counted prints missing = missing
+not_missing (Make seed acts) files told left bytes count read counted prints missing = missing
+not_missing (Export connections) files told left bytes count read counted prints missing = missing
 not_missing (Read at layers) files told left bytes count read counted prints missing = missing
 not_missing (Write at) files told left bytes count read counted prints missing = missing
 not_missing (Zero at layers) files told left bytes count read counted prints missing = missing

@@ -10,8 +10,8 @@ use Rattle.flat_image.specs.LayerFiles.{LayerOf}
 use Rattle.flat_image.specs.Stacks.{Legal}
 use Rattle.sealed_layer.specs.Layers.{LayerIndex}
 use Rattle.sealed_layer.specs.LayerFaults.{IsLayerFault}
-use Rattle.tool_setup.specs.declared.words.Command.{Command}
-use Rattle.tool_setup.specs.declared.words.Command.TheVariants.{Flatten, Info, Stack}
+use Rattle.tool_setup.specs.declared.command.Command.{Command}
+use Rattle.tool_setup.specs.declared.command.Command.TheVariants.{Flatten, Info, Stack}
 use Rattle.layer_commands.specs.declared.refusal.Refusal.{Refusal}
 use Rattle.layer_commands.specs.declared.refusal.Refusal.TheVariants as refused
 use Rattle.layer_commands.specs.Reports.{info_lines, stack_lines}

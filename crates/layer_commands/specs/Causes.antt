@@ -10,8 +10,8 @@ use Rattle.sealed_layer.specs.LayerFaults.{IsLayerFault}
 use Rattle.sealed_layer.specs.declared.fault.LayerFault.{LayerFault}
 use Rattle.sealed_layer.specs.declared.fault.LayerFault.TheVariants as file
 use Rattle.sector_extent.specs.Causes.{Charges}
-use Rattle.tool_setup.specs.declared.words.Command.{Command}
-use Rattle.tool_setup.specs.declared.words.Command.TheVariants.{Flatten, Info, Stack, Create, Read, Write, Zero}
+use Rattle.tool_setup.specs.declared.command.Command.{Command}
+use Rattle.tool_setup.specs.declared.command.Command.TheVariants.{Flatten, Info, Stack, Create, Grow, Read, Write, Zero, Commit, Sweep, Make, Export}
 use Rattle.layer_commands.specs.declared.refusal.Refusal.{Refusal}
 use Rattle.layer_commands.specs.declared.refusal.Refusal.TheVariants as refused
 use Rattle.layer_commands.specs.Prints.{LayerSheet, AreLayers, AreShort, heads_of, input_limit, read_by, Prints}
@@ -37,6 +37,11 @@ IsOverLayers (Flatten stdin) = ⊤
 IsOverLayers (Info number) = ⊤
 IsOverLayers Stack = ⊤
 IsOverLayers (Create asked) = ⊥
+IsOverLayers (Grow sectors) = ⊥
+IsOverLayers (Commit uuid) = ⊥
+IsOverLayers Sweep = ⊥
+IsOverLayers (Make seed acts) = ⊥
+IsOverLayers (Export connections) = ⊥
 IsOverLayers (Read at count) = ⊥
 IsOverLayers (Write at) = ⊥
 IsOverLayers (Zero at count) = ⊥
@@ -48,6 +53,11 @@ ReadsSource (Flatten false) = ⊥
 ReadsSource (Info number) = ⊥
 ReadsSource Stack = ⊥
 ReadsSource (Create asked) = ⊥
+ReadsSource (Grow sectors) = ⊥
+ReadsSource (Commit uuid) = ⊥
+ReadsSource Sweep = ⊥
+ReadsSource (Make seed acts) = ⊥
+ReadsSource (Export connections) = ⊥
 ReadsSource (Read at count) = ⊥
 ReadsSource (Write at) = ⊤
 ReadsSource (Zero at count) = ⊥
@@ -59,6 +69,11 @@ ReadsStack (Flatten false) = ⊤
 ReadsStack (Info number) = ⊥
 ReadsStack Stack = ⊤
 ReadsStack (Create asked) = ⊥
+ReadsStack (Grow sectors) = ⊥
+ReadsStack (Commit uuid) = ⊥
+ReadsStack Sweep = ⊥
+ReadsStack (Make seed acts) = ⊥
+ReadsStack (Export connections) = ⊥
 ReadsStack (Read at count) = ⊥
 ReadsStack (Write at) = ⊥
 ReadsStack (Zero at count) = ⊥
@@ -69,6 +84,11 @@ IsMissing (Flatten stdin) count = ⊥
 IsMissing (Info number) count = count ≤ number
 IsMissing Stack count = ⊥
 IsMissing (Create asked) count = ⊥
+IsMissing (Grow sectors) count = ⊥
+IsMissing (Commit uuid) count = ⊥
+IsMissing Sweep count = ⊥
+IsMissing (Make seed acts) count = ⊥
+IsMissing (Export connections) count = ⊥
 IsMissing (Read at layers) count = ⊥
 IsMissing (Write at) count = ⊥
 IsMissing (Zero at layers) count = ⊥
@@ -151,6 +171,11 @@ most_taken (Flatten false) = 0
 most_taken (Info number) = 0
 most_taken Stack = 0
 most_taken (Create asked) = 0
+most_taken (Grow sectors) = 0
+most_taken (Commit uuid) = 0
+most_taken Sweep = 0
+most_taken (Make seed acts) = 0
+most_taken (Export connections) = 0
 most_taken (Read at count) = 0
 most_taken (Write at) = 33554433
 most_taken (Zero at count) = 0

@@ -7,8 +7,8 @@ use Rattle.flat_image.specs.Sheets.{Cell, flat, bytes_of}
 use Rattle.flat_image.specs.LayerFiles.{LayerFile}
 use Rattle.flat_image.specs.Stacks.{uppermost, Legal}
 use Rattle.layer_shelf.specs.Shelves.{file_at}
-use Rattle.tool_setup.specs.declared.words.Command.{Command}
-use Rattle.tool_setup.specs.declared.words.Command.TheVariants.{Flatten, Info, Stack, Create, Read, Write, Zero}
+use Rattle.tool_setup.specs.declared.command.Command.{Command}
+use Rattle.tool_setup.specs.declared.command.Command.TheVariants.{Flatten, Info, Stack, Create, Grow, Read, Write, Zero, Commit, Sweep, Make, Export}
 use Rattle.layer_commands.specs.Reports.{info_lines, stack_lines}
 
 -- a layer's head and its sheet
@@ -38,6 +38,11 @@ read_by (Flatten false) left files = files
 read_by (Info number) left files = files
 read_by Stack left files = files
 read_by (Create asked) left files = files
+read_by (Grow sectors) left files = files
+read_by (Commit uuid) left files = files
+read_by Sweep left files = files
+read_by (Make seed acts) left files = files
+read_by (Export connections) left files = files
 read_by (Read at count) left files = files
 read_by (Write at) left files = files
 read_by (Zero at count) left files = files
@@ -53,6 +58,11 @@ input_limit (Flatten false) = 0
 input_limit (Info number) = 0
 input_limit Stack = 0
 input_limit (Create asked) = 0
+input_limit (Grow sectors) = 0
+input_limit (Commit uuid) = 0
+input_limit Sweep = 0
+input_limit (Make seed acts) = 0
+input_limit (Export connections) = 0
 input_limit (Read at count) = 0
 input_limit (Write at) = 33554432
 input_limit (Zero at count) = 0
@@ -64,6 +74,11 @@ Prints (Flatten false) files bytes = (layers : List LayerSheet) × AreLayers fil
 Prints (Info number) files bytes = (layer : LayerSheet) × (number < length files) × LayerFile (file_at files number) layer.head layer.sheet × (bytes ≡ info_lines number layer.head)
 Prints Stack files bytes = (layers : List LayerSheet) × AreLayers files layers × Legal (heads_of layers) × (bytes ≡ stack_lines 0 (heads_of layers))
 Prints (Create asked) files bytes = ⊥
+Prints (Grow sectors) files bytes = ⊥
+Prints (Commit uuid) files bytes = ⊥
+Prints Sweep files bytes = ⊥
+Prints (Make seed acts) files bytes = ⊥
+Prints (Export connections) files bytes = ⊥
 Prints (Read at count) files bytes = ⊥
 Prints (Write at) files bytes = ⊥
 Prints (Zero at count) files bytes = ⊥

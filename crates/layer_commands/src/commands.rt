@@ -4,7 +4,7 @@ ghost use Rattle.std.specs.Io.KnownBytes.{Appends};
 ghost use Rattle.sector_extent.specs.Causes.{Charges};
 ghost use Rattle.byte_ports.specs.Ports.{AppendsFront};
 ghost use Rattle.layer_stack.specs.declared.fault.StackFault.TheVariants.{Empty};
-ghost use Rattle.tool_setup.specs.declared.words.Command.TheVariants.{Flatten, Info, Stack};
+ghost use Rattle.tool_setup.specs.declared.command.Command.TheVariants.{Flatten, Info, Stack};
 ghost use Rattle.layer_commands.specs.Ports.{by_shelf};
 ghost use Rattle.layer_commands.specs.Flattening.{upper_sectors};
 ghost use Rattle.layer_commands.specs.Causes.{Cause, PrintsAll};

@@ -1,7 +1,7 @@
 //! Flattens one layer that was read from the source.
 ghost use Rattle.std.specs.Prelude.{◌+◌, ◌^◌, ◌≤◌, true, length, IfErr, IsErrOf, OnOk};
 ghost use Rattle.sector_extent.specs.Causes.{Charges};
-ghost use Rattle.tool_setup.specs.declared.words.Command.TheVariants.{Flatten};
+ghost use Rattle.tool_setup.specs.declared.command.Command.TheVariants.{Flatten};
 ghost use Rattle.layer_commands.specs.Ports.{TakesAtMost, by_source};
 ghost use Rattle.layer_commands.specs.Causes.{Cause, PrintsAll};
 ghost use Rattle.layer_commands.specs.OneLayer.{IsImageCause, WritesImage};

@@ -38,7 +38,14 @@ pub fn run_layers<A: Source, B: Sink, S: Shelf>(
         Command::Flatten { stdin: false } => flatten_shelf(alloc, shelf, out),
         Command::Info(number) => print_head(alloc, number, shelf, out),
         Command::Stack => print_stack(alloc, shelf, out),
-        Command::Create(_) | Command::Read { .. } | Command::Write { .. } | Command::Zero { .. } =>
-            { unreachable!() }
+        Command::Create(_)
+        | Command::Grow(_)
+        | Command::Read { .. }
+        | Command::Write { .. }
+        | Command::Zero { .. }
+        | Command::Commit(_)
+        | Command::Sweep
+        | Command::Make { .. }
+        | Command::Export { .. } => unreachable!(),
     }
 }

@@ -3,8 +3,8 @@ use Rattle.std.proofs.Common.{◌≡◌, ◌≢◌, ℕ, List, [], length, refl,
 use Rattle.std.specs.Prelude.{Option, Some, None, IfSome, ◌⊎◌, Result, Ok, Err, OnOk, IfErr}
 use Rattle.std.specs.Result.{IsErrOf}
 use Rattle.block_disk.specs.Claims.{Quiet}
-use Rattle.tool_setup.specs.declared.words.Command.{Command}
-use Rattle.tool_setup.specs.declared.words.Command.TheVariants.{Flatten, Info, Stack, Create, Read, Write, Zero}
+use Rattle.tool_setup.specs.declared.command.Command.{Command}
+use Rattle.tool_setup.specs.declared.command.Command.TheVariants.{Flatten, Info, Stack, Create, Grow, Read, Write, Zero, Commit, Sweep, Make, Export}
 use Rattle.layer_commands.specs.declared.refusal.Refusal.{Refusal}
 use Rattle.layer_commands.specs.declared.refusal.Refusal.TheVariants as refused
 use Rattle.layer_commands.specs.Texts.{code_of}
@@ -40,12 +40,22 @@ not-usage (Zero at count) before now disk disk_now cause = cause
 not-usage (Flatten stdin) before now disk disk_now cause = cause.0
 not-usage (Info number) before now disk disk_now cause = cause.0
 not-usage Stack before now disk disk_now cause = cause.0
+not-usage (Grow sectors) before now disk disk_now cause = cause
+not-usage (Commit uuid) before now disk disk_now cause = cause
+not-usage Sweep before now disk disk_now cause = cause
+not-usage (Make seed acts) before now disk disk_now cause = cause
+not-usage (Export connections) before now disk disk_now cause = cause
 
 pub usage-only : (command : Option Command) (before now : Ports) (disk disk_now : DiskPort) (told : ImageRefusal) → WordsFail command before now disk disk_now told → (code : ℕ) → code ≡ image_code told
-    → (code ≡ 2 → command ≡ None) × (command ≡ None → code ≡ 2)
-usage-only None before now disk disk_now told cause code is = ((λ two. refl), (λ none. is ∙ ap (λ (r : ImageRefusal). image_code r) cause.0))
-usage-only (Some command) before now disk disk_now told cause code is = (
+    → (code ≡ 2 → command ≡ None) × (command ≡ None → (code ≡ 2) ⊎ (code ≡ 5))
+usage-only None before now disk disk_now told (inl cause) code is = ((λ two. refl), (λ none. inl (is ∙ ap (λ (r : ImageRefusal). image_code r) cause.0)))
+usage-only None before now disk disk_now told (inr short) code is = ((λ two. refl), (λ none. inr (is ∙ ap (λ (r : ImageRefusal). image_code r) short.0)))
+usage-only (Some command) before now disk disk_now told (inl cause) code is = (
   (λ two. absurd (not-usage command before now disk disk_now (subst (λ (r : ImageRefusal). Fails command before now disk disk_now r) (code_two told (sym is ∙ two)) cause))),
+  (λ none. absurd (cc)),
+)
+usage-only (Some command) before now disk disk_now told (inr short) code is = (
+  (λ two. let five : code ≡ 5 = is ∙ ap (λ (r : ImageRefusal). image_code r) short.0 in absurd (omega (arith, two, five))),
   (λ none. absurd (cc)),
 )
 
@@ -68,6 +78,11 @@ complete-command (Create sectors) before now disk disk_now told code counted cau
 complete-command (Read at count) before now disk disk_now told code counted cause charged is = IfSome-each (read_by (Read at count) before.left before.files) (λ files e bytes prints calm. absurd prints)
 complete-command (Write at) before now disk disk_now told code counted cause charged is = IfSome-each (read_by (Write at) before.left before.files) (λ files e bytes prints calm. absurd prints)
 complete-command (Zero at count) before now disk disk_now told code counted cause charged is = IfSome-each (read_by (Zero at count) before.left before.files) (λ files e bytes prints calm. absurd prints)
+complete-command (Grow sectors) before now disk disk_now told code counted cause charged is = IfSome-each (read_by (Grow sectors) before.left before.files) (λ files e bytes prints calm. absurd prints)
+complete-command (Commit uuid) before now disk disk_now told code counted cause charged is = IfSome-each (read_by (Commit uuid) before.left before.files) (λ files e bytes prints calm. absurd prints)
+complete-command Sweep before now disk disk_now told code counted cause charged is = IfSome-each (read_by Sweep before.left before.files) (λ files e bytes prints calm. absurd prints)
+complete-command (Make seed acts) before now disk disk_now told code counted cause charged is = IfSome-each (read_by (Make seed acts) before.left before.files) (λ files e bytes prints calm. absurd prints)
+complete-command (Export connections) before now disk disk_now told code counted cause charged is = IfSome-each (read_by (Export connections) before.left before.files) (λ files e bytes prints calm. absurd prints)
 complete-command (Flatten stdin) before now disk disk_now told code counted cause charged is = print-complete (Flatten stdin) before now disk disk_now told code counted cause charged is
 complete-command (Info number) before now disk disk_now told code counted cause charged is = print-complete (Info number) before now disk disk_now told code counted cause charged is
 complete-command Stack before now disk disk_now told code counted cause charged is = print-complete Stack before now disk disk_now told code counted cause charged is
@@ -75,7 +90,9 @@ complete-command Stack before now disk disk_now told code counted cause charged 
 pub complete-refused : (command : Option Command) (before now : Ports) (disk disk_now : DiskPort) (told : ImageRefusal) (code : ℕ) → IfSome before.files (λ files. length files ≡ before.count)
     → WordsFail command before now disk disk_now told → AreCharged before now (λ r. told ≡ Other r) → code ≡ image_code told → IsComplete command before now code
 complete-refused None before now disk disk_now told code counted cause charged is = tt
-complete-refused (Some command) before now disk disk_now told code counted cause charged is = complete-command command before now disk disk_now told code counted cause charged is
+complete-refused (Some command) before now disk disk_now told code counted (inl cause) charged is = complete-command command before now disk disk_now told code counted cause charged is
+complete-refused (Some command) before now disk disk_now told code counted (inr short) charged is =
+    IfSome-each (read_by command before.left before.files) (λ files e bytes prints calm. inr (is ∙ ap (λ (r : ImageRefusal). image_code r) short.0))
 
 clear-fails : (command : Command) (before now : Ports) (disk disk_now : DiskPort) (refusal : ImageRefusal) → IfSome before.files (λ files. length files ≡ before.count)
     → IsClear command before now disk disk_now → Fails command before now disk disk_now refusal → refusal ≡ Other refused.Memory
@@ -86,13 +103,19 @@ clear-fails (Zero at count) before now disk disk_now refusal counted clear cause
 clear-fails (Flatten stdin) before now disk disk_now refusal counted clear cause = absurd clear.ready
 clear-fails (Info number) before now disk disk_now refusal counted clear cause = absurd clear.ready
 clear-fails Stack before now disk disk_now refusal counted clear cause = absurd clear.ready
+clear-fails (Grow sectors) before now disk disk_now refusal counted clear cause = absurd clear.ready
+clear-fails (Commit uuid) before now disk disk_now refusal counted clear cause = absurd clear.ready
+clear-fails Sweep before now disk disk_now refusal counted clear cause = absurd clear.ready
+clear-fails (Make seed acts) before now disk disk_now refusal counted clear cause = absurd clear.ready
+clear-fails (Export connections) before now disk disk_now refusal counted clear cause = absurd clear.ready
 
 pub clear-run : (command : Option Command) (before now : Ports) (disk disk_now : DiskPort) (refusal : ImageRefusal) (code : ℕ) → IfSome before.files (λ files. length files ≡ before.count)
     → WordsFail command before now disk disk_now refusal → code ≡ image_code refusal
     → IfSome command (λ command. IsClear command before now disk disk_now → (code ≡ 0) ⊎ (code ≡ 5))
 clear-run None before now disk disk_now refusal code counted cause is = tt
-clear-run (Some command) before now disk disk_now refusal code counted cause is =
+clear-run (Some command) before now disk disk_now refusal code counted (inl cause) is =
     λ clear. inr (is ∙ ap (λ (r : ImageRefusal). image_code r) (clear-fails command before now disk disk_now refusal counted clear cause))
+clear-run (Some command) before now disk disk_now refusal code counted (inr short) is = λ clear. inr (is ∙ ap (λ (r : ImageRefusal). image_code r) short.0)
 
 pub clear-done : (command : Option Command) (before now : Ports) (disk disk_now : DiskPort) (code : ℕ) → code ≡ 0
     → IfSome command (λ command. IsClear command before now disk disk_now → (code ≡ 0) ⊎ (code ≡ 5))

@@ -1,5 +1,5 @@
 -- What a run of the program does, and why it is refused: of a command over layers and of one on an image.
-use Rattle.std.specs.Prelude.{◌≡◌, ◌≢◌, ℕ, ◌⊎◌, ◌↔◌, ⊤, List, Option, Some, None, IfSome}
+use Rattle.std.specs.Prelude.{◌≡◌, ◌≢◌, ℕ, ◌⊎◌, ◌↔◌, ⊤, List, Option, Some, None, IfSome, Result, Ok, Err}
 use Rattle.std.specs.Io.KnownBytes.{Keeps}
 use Rattle.sector_extent.specs.Causes.{Charges}
 use Rattle.byte_ports.specs.declared.ports.Source as sources
@@ -8,8 +8,10 @@ use Rattle.layer_shelf.specs.declared.shelves.Shelf as shelves
 use Rattle.block_disk.specs.declared.disk.Disk as disks
 use Rattle.block_disk.specs.Claims.{Quiet}
 use Rattle.lsmt_header.specs.Blocks.{IsSize}
-use Rattle.tool_setup.specs.declared.words.Command.{Command}
-use Rattle.tool_setup.specs.declared.words.Command.TheVariants.{Flatten, Info, Stack, Create, Read, Write, Zero}
+use Rattle.tool_setup.specs.declared.command.Command.{Command}
+use Rattle.tool_setup.specs.declared.command.Command.TheVariants.{Flatten, Info, Stack, Create, Grow, Read, Write, Zero, Commit, Sweep, Make, Export}
+use Rattle.tool_setup.specs.declared.command.WordsFault.{WordsFault}
+use Rattle.tool_setup.specs.Words.{command_of}
 use Rattle.layer_commands.specs.declared.refusal.Refusal.{Refusal}
 use Rattle.layer_commands.specs.declared.refusal.Refusal.TheVariants as refused
 use Rattle.layer_commands.specs.Texts.{line_of}
@@ -32,15 +34,20 @@ pub record Moment : Type 1 where
 abbrev pub moment : {A B C D S : Type 0} → sources.Ghosts A → sinks.Ghosts B → sinks.Ghosts C → disks.Ghosts D → shelves.Ghosts S → A → B → C → D → S → Moment
 moment a b c d s source out notes disk shelf = record { ports = ports_of a b s source out shelf; notes = notes_of c notes; disk = disk_port d disk }
 
--- a size that is asked for is one of an image
-abbrev pub IsSized : Command → Type 0
-IsSized (Flatten stdin) = ⊤
-IsSized (Info number) = ⊤
-IsSized Stack = ⊤
-IsSized (Create sectors) = IfSome sectors IsSize
-IsSized (Read at count) = ⊤
-IsSized (Write at) = ⊤
-IsSized (Zero at count) = ⊤
+-- The command is one of those that are run here, and a size that is asked for is one of an image.
+abbrev pub IsRun : Command → Type 0
+IsRun (Flatten stdin) = ⊤
+IsRun (Info number) = ⊤
+IsRun Stack = ⊤
+IsRun (Create sectors) = IfSome sectors IsSize
+IsRun (Read at count) = ⊤
+IsRun (Write at) = ⊤
+IsRun (Zero at count) = ⊤
+IsRun (Grow sectors) = ⊥
+IsRun (Commit uuid) = ⊥
+IsRun Sweep = ⊥
+IsRun (Make seed acts) = ⊥
+IsRun (Export connections) = ⊥
 
 -- what a command over layers does: it prints, and leaves the disk as it was
 abbrev pub DoesPrint : Command → Ports → Ports → DiskPort → DiskPort → Type 0
@@ -55,6 +62,11 @@ Succeeds (Create sectors) before now disk disk_now = Does (Create sectors) befor
 Succeeds (Read at count) before now disk disk_now = Does (Read at count) before now disk disk_now
 Succeeds (Write at) before now disk disk_now = Does (Write at) before now disk disk_now
 Succeeds (Zero at count) before now disk disk_now = Does (Zero at count) before now disk disk_now
+Succeeds (Grow sectors) before now disk disk_now = ⊥
+Succeeds (Commit uuid) before now disk disk_now = ⊥
+Succeeds Sweep before now disk disk_now = ⊥
+Succeeds (Make seed acts) before now disk disk_now = ⊥
+Succeeds (Export connections) before now disk disk_now = ⊥
 
 -- the cause of a refusal of a command over layers, which leaves the disk as it was
 abbrev pub PrintFails : Command → Ports → Ports → DiskPort → DiskPort → ImageRefusal → Type 0
@@ -70,11 +82,45 @@ Fails (Create sectors) before now disk disk_now refusal = CommandCause (Create s
 Fails (Read at count) before now disk disk_now refusal = CommandCause (Read at count) before now disk disk_now refusal
 Fails (Write at) before now disk disk_now refusal = CommandCause (Write at) before now disk disk_now refusal
 Fails (Zero at count) before now disk disk_now refusal = CommandCause (Zero at count) before now disk disk_now refusal
+Fails (Grow sectors) before now disk disk_now refusal = ⊥
+Fails (Commit uuid) before now disk disk_now refusal = ⊥
+Fails Sweep before now disk disk_now refusal = ⊥
+Fails (Make seed acts) before now disk disk_now refusal = ⊥
+Fails (Export connections) before now disk disk_now refusal = ⊥
 
--- the same of words, which may be no command
+-- the command itself where it is one of those that are run here
+abbrev pub run_of : Command → Option Command
+run_of (Flatten stdin) = Some (Flatten stdin)
+run_of (Info number) = Some (Info number)
+run_of Stack = Some Stack
+run_of (Create sectors) = Some (Create sectors)
+run_of (Read at count) = Some (Read at count)
+run_of (Write at) = Some (Write at)
+run_of (Zero at count) = Some (Zero at count)
+run_of (Grow sectors) = None
+run_of (Commit uuid) = None
+run_of Sweep = None
+run_of (Make seed acts) = None
+run_of (Export connections) = None
+
+abbrev pub run_if : Result Command WordsFault → Option Command
+run_if (Ok command) = run_of command
+run_if (Err fault) = None
+
+-- the command that the words are, where it is one of those that are run here
+abbrev pub asked : List (List ℕ) → Option Command
+asked words = run_if (command_of words)
+
+-- memory is wanting before anything is done
+abbrev pub IsShort : Ports → Ports → DiskPort → DiskPort → ImageRefusal → Type 0
+IsShort before now disk disk_now refusal = (refusal ≡ Other refused.Memory) × Untouched before now disk disk_now
+
+-- The same of words, which may be no command that is run here. To read them wants memory.
 abbrev pub WordsFail : Option Command → Ports → Ports → DiskPort → DiskPort → ImageRefusal → Type 0
-WordsFail None before now disk disk_now refusal = (refusal ≡ Other refused.Usage) × Untouched before now disk disk_now
-WordsFail (Some command) before now disk disk_now refusal = Fails command before now disk disk_now refusal
+WordsFail None before now disk disk_now refusal =
+    ((refusal ≡ Other refused.Usage) × Untouched before now disk disk_now) ⊎ IsShort before now disk disk_now refusal
+WordsFail (Some command) before now disk disk_now refusal =
+    Fails command before now disk disk_now refusal ⊎ IsShort before now disk disk_now refusal
 
 -- the count of each object's faults rose just where the run was refused as that object's fault
 pub record AllCharged (before now : Ports) (disk disk_now : DiskPort) (told : Refusal → Type 0) : Type 0 where

@@ -1,65 +1,118 @@
 //! Layers of block images, and images over them: writes the flat image of one layer that is read from
 //! standard input, or of a stack of layers, prints what layers say of themselves, and makes, reads,
-//! writes and zeros the image of a disk over a stack of layers.
+//! writes and zeros the image of a disk over a stack of layers. A configuration names disk and layers.
 #![tactic(auto)]
 
 #[cfg(test)]
 mod image_tests;
 #[cfg(test)]
+mod refusal_tests;
+mod setup;
+#[cfg(test)]
 mod tests;
 mod tool;
 mod words;
 
-use crate::tool::{refuse, run_tool};
-use crate::words::words_behind;
-use block_disk::MemDisk;
-use byte_ports::{StdSink, StdSource};
-use image_commands::ImageRefusal;
-use layer_commands::Refusal;
-use layer_shelf::MemShelf;
+use crate::setup::{SetupFault, read_configuration, targets_of};
+use crate::tool::run_tool;
+use crate::words::{Parts, part_words, words_behind};
+use block_disk::{Disk, FolderDisk, MemDisk};
+use byte_ports::{Sink, StdSink, StdSource};
+use http_range::TcpLink;
+use layer_shelf::{FolderShelf, MemShelf, Shelf};
+use range_shelf::RangeShelf;
 use sector_extent::{CallList, FileTexts};
 use std::env;
 use std::io::ErrorKind;
 use std::process::ExitCode;
-use tool_setup::WordList;
+use tool_setup::{Config, Lowers, WordList};
 
 fn main(rt: HostRuntime) -> ExitCode {
-    let mut notes = StdSink::new(rt.stderr());
-    match read_args(&rt) {
-        Ok(words) => {
-            let mut source = StdSource::new(rt.stdin());
-            let mut out = StdSink::new(rt.stdout());
-            let files = FileTexts::from_vec(Vec::new(rt.alloc()));
-            let mut shelf = MemShelf::new(files, CallList::from_vec(Vec::new(rt.alloc())));
-            let (status, _disk) = run_tool(
-                rt.alloc(),
-                &words,
-                &mut source,
-                &mut out,
-                &mut notes,
-                MemDisk::new(rt.alloc()),
-                &mut shelf,
-            );
-            ExitCode::from(status.code)
-        }
-        Err(refusal) => {
-            refuse(ImageRefusal::Other(refusal), &mut notes);
-            ExitCode::from(refusal.code())
+    let answer = match read_parts(&rt) {
+        Ok(parts) => run_parts(rt, parts),
+        Err(fault) => Err(fault),
+    };
+    match answer {
+        Ok(code) => ExitCode::from(code),
+        Err(fault) => {
+            let _ = StdSink::new(rt.stderr()).write_all(fault.line().as_bytes());
+            ExitCode::from(fault.code())
         }
     }
 }
 
-// The words behind the name of the program. A word that is no text is a faulty command line.
-fn read_args(rt: &HostRuntime) -> Result<WordList, Refusal> {
+// What the arguments name. A word that is no text is a faulty command line.
+fn read_parts(rt: &HostRuntime) -> Result<Parts, SetupFault> {
     match env::args(rt) {
         Ok(args) => {
-            let words: Vec<String> = args.collect(rt.alloc())?;
-            Ok(words_behind(words))
+            let all: Vec<String> = args.collect(rt.alloc())?;
+            match part_words(words_behind(all)) {
+                Some(parts) => Ok(parts),
+                None => Err(SetupFault::Usage),
+            }
         }
         Err(error) => Err(if error.kind() == ErrorKind::OutOfMemory {
-            Refusal::Memory
+            SetupFault::Memory
         } else {
-            Refusal::Usage
+            SetupFault::Usage
         }),
     }
+}
+
+// Runs a command over what a configuration names, or over an empty disk in memory without layers.
+fn run_parts(rt: HostRuntime, parts: Parts) -> Result<u8, SetupFault> {
+    let Parts { config, words } = parts;
+    match config {
+        Some(path) => {
+            let config = read_configuration(&rt, path.as_str())?;
+            run_configured(rt, config, &words)
+        }
+        None => {
+            let files = FileTexts::from_vec(Vec::new(rt.alloc()));
+            let mut shelf = MemShelf::new(files, CallList::from_vec(Vec::new(rt.alloc())));
+            Ok(run(rt, &words, MemDisk::new(rt.alloc()), &mut shelf))
+        }
+    }
+}
+
+fn run_configured(rt: HostRuntime, config: Config, words: &WordList) -> Result<u8, SetupFault> {
+    let Config { disk, lowers, .. } = config;
+    let disk = FolderDisk::new(rt, disk);
+    match lowers {
+        Lowers::Files(paths) => {
+            // A configuration names at most 255.
+            if paths.as_slice().len() > 255 {
+                return Err(SetupFault::Config);
+            }
+            let mut shelf = FolderShelf::new(rt, paths);
+            Ok(run(rt, words, disk, &mut shelf))
+        }
+        Lowers::Remote { host, paths } => {
+            let targets = targets_of(rt.alloc(), &host, paths)?;
+            match RangeShelf::new(rt.alloc(), TcpLink::new(rt, host), targets) {
+                Ok(shelf) => {
+                    let mut shelf = shelf;
+                    Ok(run(rt, words, disk, &mut shelf))
+                }
+                Err(_) => Err(SetupFault::Memory),
+            }
+        }
+    }
+}
+
+// Runs a command between standard input and standard output.
+fn run<D: Disk + Drop, S: Shelf>(rt: HostRuntime, words: &WordList, disk: D, shelf: &mut S) -> u8 {
+    let mut source = StdSource::new(rt.stdin());
+    let mut out = StdSink::new(rt.stdout());
+    let mut notes = StdSink::new(rt.stderr());
+    let (status, _disk) = run_tool(
+        rt.alloc(),
+        words,
+        &mut source,
+        &mut out,
+        &mut notes,
+        disk,
+        shelf,
+    );
+    status.code
 }

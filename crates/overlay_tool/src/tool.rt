@@ -1,6 +1,5 @@
 //! The top call: what the words ask for, and how a refusal is told.
-ghost use Rattle.std.specs.Prelude.{◌≡◌, ◌≢◌, ◌↔◌, ◌⊎◌, map, string_bytes, None, Some, IfErr, IfSome, IsErrOf, IsSome, OnOk};
-ghost use Rattle.tool_setup.specs.Words.{command_of};
+ghost use Rattle.std.specs.Prelude.{◌≡◌, ◌≢◌, ◌⊎◌, map, string_bytes, None, Some, IfErr, IfOk, IfSome, IsErrOf, IsSome, OnOk};
 ghost use Rattle.layer_commands.specs.declared.refusal.Refusal.TheVariants as refused;
 ghost use Rattle.layer_commands.specs.Texts.{line_of};
 ghost use Rattle.layer_commands.specs.Ports.{TakesAtMost, notes_of, ports_of};
@@ -8,8 +7,8 @@ ghost use Rattle.layer_commands.specs.Causes.{IsMissing, IsNoted, most_taken};
 ghost use Rattle.image_commands.specs.declared.refusal.ImageRefusal.TheVariants.{Other};
 ghost use Rattle.image_commands.specs.ImageTexts.{image_text};
 ghost use Rattle.image_commands.specs.Images.{disk_port};
-ghost use Rattle.overlay_tool.specs.Runs.{moment, most_of, AllCharged, AreMissing, Fails, IsComplete, IsImageComplete};
-ghost use Rattle.overlay_tool.specs.Runs.{IsSized, RunFails, RunSucceeds, Succeeds, WordsFail};
+ghost use Rattle.overlay_tool.specs.Runs.{asked, moment, most_of, AllCharged, AreMissing, Fails, IsComplete, IsImageComplete};
+ghost use Rattle.overlay_tool.specs.Runs.{IsRun, RunFails, RunSucceeds, Succeeds, WordsFail};
 
 use block_disk::Disk;
 use byte_ports::{Sink, Source};
@@ -19,7 +18,7 @@ use image_commands::{
 use layer_commands::{Line, Refusal, run_layers};
 use layer_shelf::Shelf;
 use std::alloc::Global;
-use tool_setup::{Command, WordList, read_words};
+use tool_setup::{Command, WordList, WordsFault, read_words};
 
 /// How a run ends: 0 where it did what the words ask for, else 2 to 6.
 #[derive(Clone, Copy, Debug, PartialEq, Eq)]
@@ -36,7 +35,7 @@ fn run_command<A: Source, B: Sink, D: Disk, S: Shelf>(
     disk: D,
     shelf: &mut S,
 ) -> (Result<(), ImageRefusal>, D)
-    requires { IsSized command }
+    requires { IsRun command }
     ensures done { OnOk result.0 (Succeeds command
         (ports_of A.Source B.Sink S.Shelf source.old out.old shelf.old)
         (ports_of A.Source B.Sink S.Shelf source.new out.new shelf.new)
@@ -62,6 +61,37 @@ fn run_command<A: Source, B: Sink, D: Disk, S: Shelf>(
             let answer = run_layers(alloc, command, source, out, shelf);
             (as_command(answer), disk)
         }
+        Command::Grow(_)
+        | Command::Commit(_)
+        | Command::Sweep
+        | Command::Make { .. }
+        | Command::Export { .. } => unreachable!(),
+    }
+}
+
+// The command that the words are. A command that is not run here is a faulty command line.
+fn read_command(alloc: Global, words: &WordList) -> Result<Command, Refusal>
+    ensures ok { IfOk result (λ command. (asked (map string_bytes words.now) ≡ Some command) × IsRun command) }
+    ensures err { IfErr result (λ refusal. (refusal ≡ refused.Memory)
+        ⊎ ((refusal ≡ refused.Usage) × (asked (map string_bytes words.now) ≡ None))) }
+{
+    match read_words(alloc, words) {
+        Ok(command) => match command {
+            Command::Grow(_)
+            | Command::Commit(_)
+            | Command::Sweep
+            | Command::Make { .. }
+            | Command::Export { .. } => Err(Refusal::Usage),
+            Command::Flatten { .. }
+            | Command::Info(_)
+            | Command::Stack
+            | Command::Create(_)
+            | Command::Read { .. }
+            | Command::Write { .. }
+            | Command::Zero { .. } => Ok(command),
+        },
+        Err(WordsFault::Memory) => Err(Refusal::Memory),
+        Err(_) => Err(Refusal::Usage),
     }
 }
 
@@ -74,12 +104,12 @@ fn run_words<A: Source, B: Sink, D: Disk, S: Shelf>(
     disk: D,
     shelf: &mut S,
 ) -> (Result<(), ImageRefusal>, D)
-    ensures done { OnOk result.0 (IfSome (command_of (map string_bytes words.now)) (λ command. Succeeds command
+    ensures done { OnOk result.0 (IfSome (asked (map string_bytes words.now)) (λ command. Succeeds command
         (ports_of A.Source B.Sink S.Shelf source.old out.old shelf.old)
         (ports_of A.Source B.Sink S.Shelf source.new out.new shelf.new)
         (disk_port D.Disk disk) (disk_port D.Disk result.1))) }
-    ensures some { OnOk result.0 (IsSome (command_of (map string_bytes words.now))) }
-    ensures refused { IfErr result.0 (WordsFail (command_of (map string_bytes words.now))
+    ensures some { OnOk result.0 (IsSome (asked (map string_bytes words.now))) }
+    ensures refused { IfErr result.0 (WordsFail (asked (map string_bytes words.now))
         (ports_of A.Source B.Sink S.Shelf source.old out.old shelf.old)
         (ports_of A.Source B.Sink S.Shelf source.new out.new shelf.new)
         (disk_port D.Disk disk) (disk_port D.Disk result.1)) }
@@ -87,14 +117,15 @@ fn run_words<A: Source, B: Sink, D: Disk, S: Shelf>(
         (ports_of A.Source B.Sink S.Shelf source.old out.old shelf.old)
         (ports_of A.Source B.Sink S.Shelf source.new out.new shelf.new)
         (disk_port D.Disk disk) (disk_port D.Disk result.1) (λ refusal. IsErrOf result.0 (Other refusal)) }
-    ensures missing { AreMissing (command_of (map string_bytes words.now)) (S.count shelf.old)
-        → IsErrOf result.0 (Other refused.NoLayer) × (shelf.new ≡ shelf.old) }
+    ensures missing { AreMissing (asked (map string_bytes words.now)) (S.count shelf.old)
+        → (IsErrOf result.0 (Other refused.NoLayer) ⊎ IsErrOf result.0 (Other refused.Memory))
+        × (shelf.new ≡ shelf.old) }
     ensures within { TakesAtMost (A.left source.old) (A.left source.new)
-        (most_of (command_of (map string_bytes words.now))) }
+        (most_of (asked (map string_bytes words.now))) }
 {
-    match read_words(words) {
-        None => (Err(ImageRefusal::Other(Refusal::Usage)), disk),
-        Some(command) => run_command(alloc, command, source, out, disk, shelf),
+    match read_command(alloc, words) {
+        Ok(command) => run_command(alloc, command, source, out, disk, shelf),
+        Err(refusal) => (Err(ImageRefusal::Other(refusal)), disk),
     }
 }
 
@@ -120,21 +151,22 @@ pub fn run_tool<A: Source, B: Sink, C: Sink, D: Disk, S: Shelf>(
     disk: D,
     shelf: &mut S,
 ) -> (Status, D)
-    ensures usage { (result.0.code ≡ 2) ↔ (command_of (map string_bytes words.now) ≡ None) }
-    ensures done { result.0.code ≡ 0 → RunSucceeds (command_of (map string_bytes words.now))
+    ensures usage { result.0.code ≡ 2 → asked (map string_bytes words.now) ≡ None }
+    ensures no_command { asked (map string_bytes words.now) ≡ None → (result.0.code ≡ 2) ⊎ (result.0.code ≡ 5) }
+    ensures done { result.0.code ≡ 0 → RunSucceeds (asked (map string_bytes words.now))
         (moment A.Source B.Sink C.Sink D.Disk S.Shelf source.old out.old notes.old disk shelf.old)
         (moment A.Source B.Sink C.Sink D.Disk S.Shelf source.new out.new notes.new result.1 shelf.new) }
-    ensures refused { result.0.code ≢ 0 → RunFails (command_of (map string_bytes words.now))
+    ensures refused { result.0.code ≢ 0 → RunFails (asked (map string_bytes words.now))
         (moment A.Source B.Sink C.Sink D.Disk S.Shelf source.old out.old notes.old disk shelf.old)
         (moment A.Source B.Sink C.Sink D.Disk S.Shelf source.new out.new notes.new result.1 shelf.new) result.0.code }
-    ensures missing { AreMissing (command_of (map string_bytes words.now)) (S.count shelf.old)
-        → (result.0.code ≡ 6) × (shelf.new ≡ shelf.old) }
+    ensures missing { AreMissing (asked (map string_bytes words.now)) (S.count shelf.old)
+        → ((result.0.code ≡ 6) ⊎ (result.0.code ≡ 5)) × (shelf.new ≡ shelf.old) }
     ensures within { TakesAtMost (A.left source.old) (A.left source.new)
-        (most_of (command_of (map string_bytes words.now))) }
-    ensures complete { IsComplete (command_of (map string_bytes words.now))
+        (most_of (asked (map string_bytes words.now))) }
+    ensures complete { IsComplete (asked (map string_bytes words.now))
         (ports_of A.Source B.Sink S.Shelf source.old out.old shelf.old)
         (ports_of A.Source B.Sink S.Shelf source.new out.new shelf.new) result.0.code }
-    ensures complete_image { IsImageComplete (command_of (map string_bytes words.now))
+    ensures complete_image { IsImageComplete (asked (map string_bytes words.now))
         (moment A.Source B.Sink C.Sink D.Disk S.Shelf source.old out.old notes.old disk shelf.old)
         (moment A.Source B.Sink C.Sink D.Disk S.Shelf source.new out.new notes.new result.1 shelf.new) result.0.code }
 {

@@ -1,8 +1,20 @@
-//! The words of the command line, and the command that they ask for.
+//! The words of the command line and the command that they ask for, and the configuration of an image.
 #![tactic(auto)]
 
+mod arguments;
+mod command;
+mod config;
+mod configuration;
+mod fields;
+mod lowers;
+mod parsing;
 #[cfg(test)]
 mod tests;
+mod values;
+mod verb;
 mod words;
 
-pub use words::{Command, WordList, read_words};
+pub use command::{Arg, Command, WordsFault};
+pub use config::{Config, ConfigFault, Field, Lowers, TextList};
+pub use configuration::read_config;
+pub use words::{WordList, read_words};

@@ -3,7 +3,7 @@ use Rattle.std.specs.Prelude.{OnOk, OnErr}
 use Rattle.std.specs.Io.KnownBytes.{Appends}
 use Rattle.byte_ports.specs.Ports.{AppendsFront}
 use Rattle.image_core.specs.Parts.{parts_view}
-use Rattle.tool_setup.specs.declared.words.Command.TheVariants.{Create}
+use Rattle.tool_setup.specs.declared.command.Command.TheVariants.{Create}
 use Rattle.image_core.specs.Seen.{Seen}
 use Rattle.image_commands.specs.ImageReports.{created_line}
 use Rattle.layer_commands.specs.Ports.{Ports}

@@ -1,7 +1,7 @@
 use Rattle.std.proofs.Common.{◌≡◌, ℕ, ◌+◌, ◌≤◌, ◌<◌, List, [], refl, ◌∙◌, subst, arith}
 use Rattle.std.specs.Prelude.{Option, OnOk, OnErr}
 use Rattle.std.proofs.KnownBytes.{Keeps-refl}
-use Rattle.tool_setup.specs.declared.words.Command.TheVariants.{Read}
+use Rattle.tool_setup.specs.declared.command.Command.TheVariants.{Read}
 use Rattle.layer_commands.specs.Ports.{Ports}
 use Rattle.image_core.specs.Seen.{Seen}
 use Rattle.image_commands.specs.Images.{DiskPort, Opens}

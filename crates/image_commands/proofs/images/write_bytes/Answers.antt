@@ -4,7 +4,7 @@ use Rattle.std.specs.Io.KnownBytes.{Appends}
 use Rattle.std.proofs.KnownBytes.{Keeps-refl}
 use Rattle.flat_image.specs.declared.act.Act.TheVariants as act
 use Rattle.flat_image.specs.Sectors.{sector_count}
-use Rattle.tool_setup.specs.declared.words.Command.TheVariants.{Write}
+use Rattle.tool_setup.specs.declared.command.Command.TheVariants.{Write}
 use Rattle.image_core.specs.Seen.{Seen}
 use Rattle.image_commands.specs.ImageReports.{wrote_line}
 use Rattle.layer_commands.specs.Ports.{Ports}

@@ -3,7 +3,7 @@ use Rattle.std.specs.Prelude.{Some, OnOk, IfErr}
 use Rattle.std.specs.Io.KnownBytes.{Appends}
 use Rattle.flat_image.specs.declared.act.Act.TheVariants as act
 use Rattle.std.proofs.KnownBytes.{Keeps-refl}
-use Rattle.tool_setup.specs.declared.words.Command.TheVariants.{Zero}
+use Rattle.tool_setup.specs.declared.command.Command.TheVariants.{Zero}
 use Rattle.image_core.specs.Seen.{Seen}
 use Rattle.image_commands.specs.ImageReports.{zeroed_line}
 use Rattle.layer_commands.specs.Ports.{Ports}

@@ -1,7 +1,7 @@
 use Rattle.std.proofs.Common.{◌∙◌, ℕ, List, IfSome, map, subst, sym, false}
 use Rattle.std.specs.Prelude.{Option}
 use Rattle.std.proofs.lemmas.Result.{on_ok_weaker}
-use Rattle.tool_setup.specs.declared.words.Command.TheVariants.{Flatten}
+use Rattle.tool_setup.specs.declared.command.Command.TheVariants.{Flatten}
 use Rattle.layer_commands.specs.Ports.{shelf_ports}
 use Rattle.layer_commands.specs.Causes.{Cause}
 use Rattle.layer_commands.proofs.OneLayers.{err_both}

@@ -1,6 +1,6 @@
 use Rattle.std.proofs.Common.{◌∙◌, ◌<◌, ap, arith}
 use Rattle.std.proofs.lemmas.Result.{err_from_is_err_and, on_ok_weaker}
-use Rattle.tool_setup.specs.declared.words.Command.TheVariants.{Info}
+use Rattle.tool_setup.specs.declared.command.Command.TheVariants.{Info}
 use Rattle.layer_commands.specs.Reports.{info_lines}
 use Rattle.layer_commands.specs.Ports.{shelf_ports}
 use Rattle.layer_commands.proofs.ShelfCommands.{info_done, info_front, info_refused, sink_refused}

@@ -1,7 +1,7 @@
 use Rattle.std.proofs.Common.{◌∙◌, List, map, ap}
 use Rattle.std.proofs.lemmas.Result.{on_ok_weaker}
 use Rattle.sealed_layer.specs.Layers.{LayerIndex}
-use Rattle.tool_setup.specs.declared.words.Command.TheVariants.{Stack}
+use Rattle.tool_setup.specs.declared.command.Command.TheVariants.{Stack}
 use Rattle.layer_commands.specs.Reports.{stack_lines}
 use Rattle.layer_commands.specs.Ports.{shelf_ports}
 use Rattle.layer_commands.proofs.ShelfCommands.{stack_done, stack_front, sink_refused}

@@ -1,6 +1,6 @@
 use Rattle.std.proofs.Common.{ℕ, ◌^◌, ◌≤◌, List, length, subst, arith}
 use Rattle.std.proofs.lemmas.Result.{on_ok_weaker}
-use Rattle.tool_setup.specs.declared.words.Command.TheVariants.{Flatten}
+use Rattle.tool_setup.specs.declared.command.Command.TheVariants.{Flatten}
 use Rattle.std.specs.Prelude.{true}
 use Rattle.layer_commands.specs.Causes.{Cause}
 use Rattle.layer_commands.specs.Ports.{source_ports}

@@ -1,5 +1,5 @@
 use Rattle.std.proofs.Common.{◌≡◌, ℕ, refl}
-use Rattle.tool_setup.specs.declared.words.Command.TheVariants.{Create, Read, Zero}
+use Rattle.tool_setup.specs.declared.command.Command.TheVariants.{Create, Read, Zero}
 use Rattle.layer_commands.specs.Ports.{Ports, ports_of}
 use Rattle.layer_commands.proofs.Charged.{charges_at, stays}
 use Rattle.image_commands.proofs.Answered.{unfed}

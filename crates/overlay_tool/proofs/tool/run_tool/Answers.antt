@@ -1,11 +1,10 @@
 use Rattle.std.proofs.Common.{◌≡◌, List, ℕ, refl, map, string_bytes, subst}
 use Rattle.std.specs.Prelude.{Option, Result, IfErr}
-use Rattle.tool_setup.specs.Words.{command_of}
-use Rattle.tool_setup.specs.declared.words.Command.{Command}
+use Rattle.tool_setup.specs.declared.command.Command.{Command}
 use Rattle.layer_commands.specs.Ports.{Ports, ports_of}
 use Rattle.image_commands.specs.declared.refusal.ImageRefusal.{ImageRefusal}
 use Rattle.image_commands.specs.Images.{DiskPort, disk_port}
-use Rattle.overlay_tool.specs.Runs.{WordsFail}
+use Rattle.overlay_tool.specs.Runs.{WordsFail, asked}
 use Rattle.overlay_tool.proofs.Tools.{charged-by, complete_done, complete-refused, clear-run, usage-only}
 use Rattle.overlay_tool.proofs.tool.run_tool.Goals as goal
 
@@ -15,7 +14,7 @@ returns-in-Ok-clause-complete g c =
     let now : Ports = ports_of g.A.Source g.B.Sink g.S.Shelf c.run_words-answer.new.source c.run_words-answer.new.out c.run_words-answer.new.shelf in
     let disk : DiskPort = disk_port g.D.Disk c.args.disk in
     let disk_now : DiskPort = disk_port g.D.Disk c.run_words-answer.result.1 in
-    let command : Option Command = command_of (map string_bytes c.args.words.now) in
+    let command : Option Command = asked (map string_bytes c.args.words.now) in
     complete_done command before now 0 refl
 
 pub returns-in-Err-clause-usage : goal.returns-in-Err-clause-usage
@@ -24,10 +23,21 @@ returns-in-Err-clause-usage g c =
     let now : Ports = ports_of g.A.Source g.B.Sink g.S.Shelf c.run_words-answer.new.source c.run_words-answer.new.out c.run_words-answer.new.shelf in
     let disk : DiskPort = disk_port g.D.Disk c.args.disk in
     let disk_now : DiskPort = disk_port g.D.Disk c.run_words-answer.result.1 in
-    let command : Option Command = command_of (map string_bytes c.args.words.now) in
+    let command : Option Command = asked (map string_bytes c.args.words.now) in
     let cause : WordsFail command before now disk disk_now c.in-Err.refusal =
     subst (λ (r : Result (Unit {0}) ImageRefusal). IfErr r (WordsFail command before now disk disk_now)) c.in-Err.is c.run_words-answer.ensures.refused in
-    usage-only command before now disk disk_now c.in-Err.refusal cause c.code.result c.code.ensures
+    (usage-only command before now disk disk_now c.in-Err.refusal cause c.code.result c.code.ensures).0
+
+pub returns-in-Err-clause-no_command : goal.returns-in-Err-clause-no_command
+returns-in-Err-clause-no_command g c =
+    let before : Ports = ports_of g.A.Source g.B.Sink g.S.Shelf c.args.source.now c.args.out.now c.args.shelf.now in
+    let now : Ports = ports_of g.A.Source g.B.Sink g.S.Shelf c.run_words-answer.new.source c.run_words-answer.new.out c.run_words-answer.new.shelf in
+    let disk : DiskPort = disk_port g.D.Disk c.args.disk in
+    let disk_now : DiskPort = disk_port g.D.Disk c.run_words-answer.result.1 in
+    let command : Option Command = asked (map string_bytes c.args.words.now) in
+    let cause : WordsFail command before now disk disk_now c.in-Err.refusal =
+    subst (λ (r : Result (Unit {0}) ImageRefusal). IfErr r (WordsFail command before now disk disk_now)) c.in-Err.is c.run_words-answer.ensures.refused in
+    (usage-only command before now disk disk_now c.in-Err.refusal cause c.code.result c.code.ensures).1
 
 pub returns-in-Err-clause-complete : goal.returns-in-Err-clause-complete
 returns-in-Err-clause-complete g c =
@@ -35,7 +45,7 @@ returns-in-Err-clause-complete g c =
     let now : Ports = ports_of g.A.Source g.B.Sink g.S.Shelf c.run_words-answer.new.source c.run_words-answer.new.out c.run_words-answer.new.shelf in
     let disk : DiskPort = disk_port g.D.Disk c.args.disk in
     let disk_now : DiskPort = disk_port g.D.Disk c.run_words-answer.result.1 in
-    let command : Option Command = command_of (map string_bytes c.args.words.now) in
+    let command : Option Command = asked (map string_bytes c.args.words.now) in
     let cause : WordsFail command before now disk disk_now c.in-Err.refusal =
     subst (λ (r : Result (Unit {0}) ImageRefusal). IfErr r (WordsFail command before now disk disk_now)) c.in-Err.is c.run_words-answer.ensures.refused in
     complete-refused command before now disk disk_now c.in-Err.refusal c.code.result (g.met.S.Shelf.counted c.args.shelf.now) cause
@@ -47,7 +57,7 @@ returns-in-Err-clause-complete_image g c =
     let now : Ports = ports_of g.A.Source g.B.Sink g.S.Shelf c.run_words-answer.new.source c.run_words-answer.new.out c.run_words-answer.new.shelf in
     let disk : DiskPort = disk_port g.D.Disk c.args.disk in
     let disk_now : DiskPort = disk_port g.D.Disk c.run_words-answer.result.1 in
-    let command : Option Command = command_of (map string_bytes c.args.words.now) in
+    let command : Option Command = asked (map string_bytes c.args.words.now) in
     let cause : WordsFail command before now disk disk_now c.in-Err.refusal =
     subst (λ (r : Result (Unit {0}) ImageRefusal). IfErr r (WordsFail command before now disk disk_now)) c.in-Err.is c.run_words-answer.ensures.refused in
     clear-run command before now disk disk_now c.in-Err.refusal c.code.result (g.met.S.Shelf.counted c.args.shelf.now) cause c.code.ensures

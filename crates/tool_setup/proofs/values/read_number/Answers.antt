@@ -2,7 +2,7 @@ use Rattle.std.proofs.Common.{◌≡◌, ℕ, ◌+◌, ◌-◌, ◌*◌, ◌<◌
 use Rattle.std.specs.Char.{is_ascii_digit}
 use Rattle.std.proofs.lemmas.List.Folds.{list_all_more}
 use Rattle.tool_setup.proofs.Numbers.{room_for_digit, digit_below, bound_more, value_more}
-use Rattle.tool_setup.proofs.words.read_number.Goals as goal
+use Rattle.tool_setup.proofs.values.read_number.Goals as goal
 
 pub overflow_mul-number : goal.overflow_mul-number
 overflow_mul-number c =
