@@ -5,7 +5,7 @@ import re
 import subprocess
 import sys
 
-LONGEST_LINE, LONGEST_FILE, LONGEST_README, LONGEST_CHAIN, MOST_EDITS = 120, 800, 8 * 1024, 8, 8
+LONGEST_LINE, LONGEST_FILE, LONGEST_README, LONGEST_CHAIN, MOST_EDITS = 120, 800, 8 * 1024, 9, 8
 
 os.chdir(os.path.join(os.path.dirname(os.path.abspath(__file__)), ".."))
 files = subprocess.run(["git", "ls-files"], check=True, capture_output=True, text=True).stdout.split("\n")[:-1]
@@ -78,7 +78,7 @@ for path in files:
         continue
     text = "\n".join(lines_of(path))
     places = {os.path.join(os.path.dirname(path), it) for it in re.findall(r"\]\(([^)#:\s]+)(?:#[^)]*)?\)", text)}
-    places |= {it for it in re.findall(r"`((?:docs|tools|bench|crates)/[\w./-]+)`", text) if "NAME" not in it}
+    places |= {it for it in re.findall(r"`((?:docs|tools|bench|crates)/[\w./-]+)`", text) if "NAME" not in it and "/out/" not in it}
     faults += [f"{path} names {it}, which is not there" for it in sorted(places) if not os.path.exists(it)]
 
 for it in faults:
