@@ -166,8 +166,9 @@ fn make_all<D: Disk>(
 }
 
 /// Makes the steps of a list in order, and adds a reply for each behind those that are there. Ranges lie
-/// in the image as it is before the list. A step that is refused, or that the disk fails in, has that as its reply, and the list goes on. Without
-/// memory for a plan's bytes or for a reply it stops before that step.
+/// in the image as it is before the list. A step that is refused, or that the disk fails in, has that as
+/// its reply, and the list goes on. Without memory for a plan's bytes or for a reply it stops before that
+/// step.
 pub fn run_steps<D: Disk>(
     alloc: Global,
     image: &mut Image<D>,
