@@ -30,17 +30,42 @@ fn numbered(step: Step) -> Numbered
     Numbered { number: 0, step }
 }
 
+// A write of the last sector.
+fn last_sector(alloc: Global) -> Result<Step, Fail>
+    ensures { IfOk result (MayStep 8) }
+{
+    let bytes = vec![in alloc; 0x64; 512]?;
+    Ok(Step::Write(Extent { at: 7, count: 1 }, Bytes::from_vec(bytes)))
+}
+
+// A grow by four sectors.
+fn larger() -> Step
+    ensures { MayStep 8 result }
+{
+    Step::Grow(12)
+}
+
 // The last sector is written, and then the image grows, and once more where the first grow failed.
 fn growth(alloc: Global) -> Result<StepList, Fail>
     ensures may { IfOk result (MayRun 8) }
     ensures count { IfOk result (λ list. length list ≡ 3) }
 {
-    let bytes = Bytes::from_vec(vec![in alloc; 0x64; 512]?);
     let mut list = Vec::new(alloc);
-    list.push(numbered(Step::Write(Extent { at: 7, count: 1 }, bytes)))?;
-    list.push(numbered(Step::Grow(12)))?;
-    list.push(numbered(Step::Grow(12)))?;
+    list.push(numbered(last_sector(alloc)?))?;
+    list.push(numbered(larger()))?;
+    list.push(numbered(larger()))?;
     Ok(StepList::from_vec(list))
+}
+
+// Makes these steps on an image of eight sectors.
+fn make_growth<D: Disk>(alloc: Global, image: &mut Image<D>) -> Result<ReplyList, Fail>
+    requires standing { IsImage (seen D.Disk image.old) }
+    requires sectors { (view image.old).sectors ≡ 8 }
+    requires steps { (view image.old).steps ≡ 0 }
+{
+    let mut replies = ReplyList::from_vec(Vec::new(alloc));
+    run_steps(alloc, image, &growth(alloc)?, &mut replies)?;
+    Ok(replies)
 }
 
 // What came of an image that was opened and grew.
@@ -58,8 +83,7 @@ fn grow(alloc: Global, disk: MemDisk) -> Result<Option<Grown>, Fail> {
             if image.sectors() != 8 {
                 return Err(Fail::from("another size"));
             }
-            let mut replies = ReplyList::from_vec(Vec::new(alloc));
-            run_steps(alloc, &mut image, &growth(alloc)?, &mut replies)?;
+            let replies = make_growth(alloc, &mut image)?;
             let disk = image.into_disk();
             Ok(Some(Grown { disk, replies }))
         }
@@ -208,13 +232,13 @@ fn a_grow_writes_the_manifest_in_the_newer_format(rt: HostRuntime) -> Result<(),
     };
     let mut disk = grown.disk;
     for (at, bytes) in [
-        (512, [0xA5, 0, 0, 0, 0, 0, 0, 0, 2, 0, 0, 0, 0, 0, 0, 0]),
+        (512_u16, [0xA5, 0, 0, 0, 0, 0, 0, 0, 2, 0, 0, 0, 0, 0, 0, 0]),
         (528, [0; 16]),
         (544, [0; 16]),
         (560, [12, 0, 0, 0, 0, 0, 0, 0, 2, 0, 0, 0, 0, 0, 0, 0]),
     ] {
         let mut read = [0; 16];
-        disk.read_at(0, at, &mut read)?;
+        disk.read_at(0, at as u64, &mut read)?;
         assert_eq!(rt; read, bytes);
     }
     Ok(())

@@ -12,7 +12,7 @@ use std::test::Fail;
 const LENGTHS: [u64; 4] = [1_024, 5_632, 4_144, 1_024];
 
 // Bytes of a file from a place on. What no part says is zeros, but for the sectors of the data.
-const PARTS: [(u32, u64, [u8; 16]); 15] = [
+const PARTS: [(u32, u16, [u8; 16]); 15] = [
     (0, 0, [0xA5, 0, 0, 0, 0, 0, 0, 0, 1, 0, 0, 0, 0, 0, 0, 0]),
     (0, 48, [8, 0, 0, 0, 0, 0, 0, 0, 0, 0, 0, 0, 0, 0, 0, 0]),
     (
@@ -50,7 +50,7 @@ pub(crate) fn old_disk(alloc: Global) -> Result<MemDisk, Fail> {
         disk.write_at(1, at, &[byte; 512])?;
     }
     for (file, at, bytes) in PARTS {
-        disk.write_at(file, at, &bytes)?;
+        disk.write_at(file, at as u64, &bytes)?;
     }
     for file in 0..4 {
         disk.sync(file)?;
@@ -65,7 +65,7 @@ fn are_as_written(rt: &impl Abort, disk: &mut MemDisk) -> Result<(), Fail> {
     }
     for (file, at, bytes) in PARTS {
         let mut read = [0; 16];
-        disk.read_at(file, at, &mut read)?;
+        disk.read_at(file, at as u64, &mut read)?;
         assert_eq!(rt; read, bytes);
     }
     Ok(())

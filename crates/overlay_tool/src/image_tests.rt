@@ -118,6 +118,30 @@ fn an_image_over_a_layer_is_read(rt: HostRuntime) -> Result<(), Fail> {
     Ok(())
 }
 
+#[test]
+fn an_image_is_larger_than_its_layer(rt: HostRuntime) -> Result<(), Fail> {
+    let alloc = rt.alloc();
+    let layer = first(alloc)?;
+    let lowers = [layer.as_slice()];
+    let disk = MemDisk::new(alloc);
+    let words = ["create", "--sectors", "3"];
+    let (status, _, notes, disk) = run_on(&rt, alloc, disk, &words, &[], &lowers)?;
+    assert_eq!(rt; status, 6);
+    assert_eq!(rt; notes.as_slice(), b"refused: other size\n".as_slice());
+    let words = ["create", "--sectors", "8"];
+    let (status, out, _, disk) = run_on(&rt, alloc, disk, &words, &[], &lowers)?;
+    assert_eq!(rt; status, 0);
+    assert_eq!(rt; out.as_slice(), b"created sectors 8 layers 1\n".as_slice());
+    let (status, out, _, _) = run_on(&rt, alloc, disk, &["read", "0", "8"], &[], &lowers)?;
+    assert_eq!(rt; status, 0);
+    let mut image = Vec::new(alloc);
+    for byte in [0, 0x61, 0x62, 0, 0, 0, 0, 0] {
+        image.extend_from_slice(&[byte; 512])?;
+    }
+    assert_eq!(rt; out.as_slice(), image.as_slice());
+    Ok(())
+}
+
 const FOLDER: &str = "overlay_tool_test";
 
 #[test]

@@ -1,4 +1,5 @@
 ghost use Rattle.std.specs.Prelude.{◌≡◌, ◌+◌, ◌*◌, ◌^◌, ◌<◌, ◌≤◌, ◌/◌, IfOk, length};
+ghost use Rattle.lsmt_header.specs.Blocks.{IsSize};
 ghost use Rattle.top_writer.specs.Fitting.{IsFitted};
 ghost use Rattle.top_writer.specs.View.{sectors_of, sequence_of};
 
@@ -23,16 +24,26 @@ const SECOND: u64 = 10;
 // Calls in a load.
 const LOADED: u64 = 10;
 
-// A top of eight sectors in which nothing was written.
+// A top of so many sectors in which nothing was written.
+fn top_of<D: Disk>(alloc: Global, disk: &mut D, sectors: u64) -> Result<Top, Fail>
+    requires size { IsSize sectors }
+    ensures fits { IfOk result (IsFitted D.tells (D.state disk.new)) }
+    ensures sectors { IfOk result (λ top. sectors_of top ≡ sectors) }
+    ensures sequence { IfOk result (λ top. sequence_of top ≡ 1) }
+{
+    match Top::create(alloc, disk, 0, sectors, [0; 16]) {
+        Ok(top) => Ok(top),
+        Err(_) => Err(Fail::from("the top was not made")),
+    }
+}
+
+// And one of eight sectors.
 fn new_top<D: Disk>(alloc: Global, disk: &mut D) -> Result<Top, Fail>
     ensures fits { IfOk result (IsFitted D.tells (D.state disk.new)) }
     ensures sectors { IfOk result (λ top. sectors_of top ≡ 8) }
     ensures sequence { IfOk result (λ top. sequence_of top ≡ 1) }
 {
-    match Top::create(alloc, disk, 0, 8, [0; 16]) {
-        Ok(top) => Ok(top),
-        Err(_) => Err(Fail::from("the top was not made")),
-    }
+    top_of(alloc, disk, 8)
 }
 
 // Writes a sector of one byte, and flushes.
@@ -187,20 +198,30 @@ fn each_failed_call_of_a_load_is_told(rt: HostRuntime) -> Result<(), Fail> {
     Ok(())
 }
 
+// Lets it be the top of a larger image.
+fn grow<D: Disk>(top: &mut Top, disk: &D, sectors: u64)
+    requires more { sectors_of top.old ≤ sectors }
+    requires few { sectors ≤ 2 ^ 31 }
+    requires fits { IsFitted D.tells (D.state disk.now) top.old }
+    ensures sectors { sectors_of top.new ≡ sectors }
+    ensures sequence { sequence_of top.new ≡ sequence_of top.old }
+    ensures fits { IsFitted D.tells (D.state disk.now) top.new }
+{
+    top.grow(sectors);
+}
+
 #[test]
 fn a_top_that_grew_is_loaded_with_its_new_size(rt: HostRuntime) -> Result<(), Fail> {
     let alloc = rt.alloc();
     let mut disk = MemDisk::new(alloc);
-    let Ok(mut top) = Top::create(alloc, &mut disk, 0, 8, [0; 16]) else {
-        return Err(Fail::from("no top was made"));
-    };
-    top.grow(12);
-    if top
-        .write(&mut disk, Extent { at: 11, count: 1 }, &[0x61; 512])
-        .is_err()
-    {
-        return Err(Fail::from("the last sector was not written"));
-    }
+    let mut top = new_top(alloc, &mut disk)?;
+    grow(&mut top, &disk, 12);
+    write(
+        &mut top,
+        &mut disk,
+        Extent { at: 11, count: 1 },
+        &[0x61; 512],
+    )?;
     top.flush(&mut disk)?;
     let Ok(again) = Top::load(alloc, &mut disk, 0, 12, false, None) else {
         return Err(Fail::from("the files were not loaded"));
@@ -317,9 +338,7 @@ fn fill_rows<D: Disk>(top: &mut Top, disk: &D) -> Result<(), WriteFault>
 fn a_full_top_refuses(rt: HostRuntime) -> Result<(), Fail> {
     let alloc = rt.alloc();
     let mut disk = MemDisk::new(alloc);
-    let Ok(mut top) = Top::create(alloc, &mut disk, 0, 131_072, [0; 16]) else {
-        return Err(Fail::from("the top was not made"));
-    };
+    let mut top = top_of(alloc, &mut disk, 131_072)?;
     assert_eq!(rt; fill_rows(&mut top, &disk), Ok(()));
     let bytes = vec![in alloc; 0; 33_554_432]?;
     let extent = Extent {

@@ -3,7 +3,7 @@ use Rattle.std.proofs.Common.{◌≡◌, ℕ, ◌≤◌, List, [], refl, sym, ap
 use Rattle.std.specs.Prelude.{Some}
 use Rattle.flat_image.specs.declared.base.Base.{Base}
 use Rattle.flat_image.specs.History.{History}
-use Rattle.flat_image.proofs.HistoryLaws.{now-sectors, now-lowers}
+use Rattle.flat_image.proofs.HistoryLaws.{size-rises, now-lowers}
 use Rattle.layer_shelf.specs.Shelves.{ShelfState}
 use Rattle.sealed_layer.specs.Layers.{LayerIndex}
 use Rattle.image_core.specs.View.{AreLayersOf}
@@ -14,7 +14,7 @@ use Rattle.image_core.proofs.SheetsRead.{layers-length}
 use Rattle.image_core.proofs.whole_tests.an_image_is_read_through_its_layers.Goals as goal
 
 within-of : (x : Seen) (base : Base) (history : History) → StandsFor x base history → base.sectors ≡ 8 → 8 ≤ (parts_view x.parts).sectors
-within-of x base history k size = omega (arith, k.fits.top.holds.sectors, now-sectors base history, size)
+within-of x base history k size = omega (arith, k.fits.top.holds.sectors, size-rises base history k.proper, size)
 
 told-of : (x : Seen) (base : Base) (history : History) → StandsFor x base history → AreLayersOf base.lowers x.parts.lowers
 told-of x base history k = subst (λ (l : List (List ℕ)). AreLayersOf l x.parts.lowers) (now-lowers base history) k.fits.lowers
