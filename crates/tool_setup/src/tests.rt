@@ -303,6 +303,14 @@ fn nested(alloc: Global, depth: usize) -> Result<Vec<u8>, AllocError> {
     Ok(text)
 }
 
+/// The host of the lowers, empty for files, and how many they are.
+fn host_and_count(lowers: &Lowers) -> (&[u8], usize) {
+    match lowers {
+        Lowers::Files(files) => (b"".as_slice(), files.as_slice().len()),
+        Lowers::Remote { host, paths } => (host.as_slice(), paths.as_slice().len()),
+    }
+}
+
 #[test]
 fn configurations_are_read_or_refused(rt: HostRuntime) -> Result<(), Fail> {
     let alloc = rt.alloc();
@@ -327,17 +335,17 @@ fn configurations_are_read_or_refused(rt: HostRuntime) -> Result<(), Fail> {
         fault_of(read_config(alloc, b"\xFF")),
         Some(ConfigFault::NotJson)
     );
-    let least = read_config(alloc, b"{\"disk\":\"\",\"disk\":\"d\"}").map_err(|_| "refused")?;
+    let least = read_config(alloc, b"{\"disk\":\"\",\"disk\":\"d\"}").expect(
+        &rt,
+        "a configuration",
+    );
     assert_eq!(rt; least.disk.as_slice(), b"d".as_slice());
     assert_eq!(rt; least.export.as_slice().len(), 0);
     assert!(rt; !least.read_only);
     assert_eq!(rt; (least.cache_blocks, least.lanes), (1024, 2));
     assert_eq!(rt; least.listen.as_slice(), b"127.0.0.1:10809".as_slice());
     assert_eq!(rt; least.control.as_slice(), b"127.0.0.1:10810".as_slice());
-    match least.lowers {
-        Lowers::Files(files) => assert_eq!(rt; files.as_slice().len(), 0),
-        Lowers::Remote { .. } => assert!(rt; false),
-    }
+    assert_eq!(rt; host_and_count(&least.lowers), (b"".as_slice(), 0));
     Ok(())
 }
 
@@ -346,18 +354,12 @@ fn each_field_is_read(rt: HostRuntime) -> Result<(), Fail> {
     let text =
         b"{ \"disk\": \"d\", \"lowers\": {\"host\": \"h:80\", \"paths\": [\"/a\", \"/b\"]}, \"export\": \"img\",
         \"read_only\": true, \"cache_blocks\": 16384, \"lanes\": 16, \"listen\": \"[::1]:1\", \"control\": \"c:2\" }";
-    let config = read_config(rt.alloc(), text).map_err(|_| "refused")?;
+    let config = read_config(rt.alloc(), text).expect(&rt, "a configuration");
     assert_eq!(rt; config.export.as_slice(), b"img".as_slice());
     assert!(rt; config.read_only);
     assert_eq!(rt; (config.cache_blocks, config.lanes), (16384, 16));
     assert_eq!(rt; config.listen.as_slice(), b"[::1]:1".as_slice());
     assert_eq!(rt; config.control.as_slice(), b"c:2".as_slice());
-    match config.lowers {
-        Lowers::Files(_) => assert!(rt; false),
-        Lowers::Remote { host, paths } => {
-            assert_eq!(rt; host.as_slice(), b"h:80".as_slice());
-            assert_eq!(rt; paths.as_slice().len(), 2);
-        }
-    }
+    assert_eq!(rt; host_and_count(&config.lowers), (b"h:80".as_slice(), 2));
     Ok(())
 }
