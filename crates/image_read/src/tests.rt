@@ -200,7 +200,10 @@ fn a_worn_image_shuts_down(rt: HostRuntime) -> Result<(), Fail> {
     let Some(seat) = list.into_vec().pop() else {
         return Err("a seat")?;
     };
-    assert_eq!(rt; two_flushes(&rt, alloc, &shared, seat)?, [Some(0), Some(108)]);
+    assert_eq!(rt;
+        two_flushes(&rt, alloc, &shared, seat)?,
+        [Some(0), Some(108)]
+    );
     Ok(())
 }
 

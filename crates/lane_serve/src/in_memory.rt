@@ -98,7 +98,9 @@ fn make_room<E>(taken: &mut Vec<TakenBack<E>>, given: usize) -> Result<(), Alloc
 
 impl<E> Listener for MemListener<E> {
     type A = MemSource;
+
     type B = MemSink;
+
     type E = E;
 
     ghost use Rattle.std.specs.Prelude.{Some};

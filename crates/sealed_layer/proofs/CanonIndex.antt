@@ -40,12 +40,12 @@ canonical-index n uuid parent below sheet long named parent_long size count few 
       kind = refl;
       valid = record { version = version_is (nat_lt below (length sheet)); size = (omega (arith, size.0, count), omega (arith, size.1, count)); named = λ sealed. named };
       sized = record {
-          index_at = omega (arith, filled, size.1, count);
-          rows = omega (arith, few);
-          uuid = long;
-          parent = parent_long;
-          tag = record { short = omega arith; utf8 = IsUtf8-nil; no_zero = All-nil (λ byte. byte ≢ 0) };
-        };
+        index_at = omega (arith, filled, size.1, count);
+        rows = omega (arith, few);
+        uuid = long;
+        parent = parent_long;
+        tag = record { short = omega arith; utf8 = IsUtf8-nil; no_zero = All-nil (λ byte. byte ≢ 0) };
+      };
       from = omega arith;
       whole = omega arith;
       index_at = omega (arith, filled, size.1, count);
