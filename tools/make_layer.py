@@ -5,7 +5,7 @@
 
 RAW is the bytes of an image, a multiple of 512. Its zero runs take no room: they become zeroed rows. With --over, LOWER is
 the raw image of what lies below, of the same length, and --parent is the uuid of the layer below: sectors that are the same
-in both become holes. The uuid is random unless it is given, and is printed. docs/layer-format.md has the format.
+in both become holes. The uuid is random unless it is given, and is printed. docs/format.md has the format.
 """
 import argparse
 import struct
