@@ -20,12 +20,14 @@ enum Failing {
     Disk,
 }
 
-/// A layer of the shelf: L1, L2 over it, L2 of fewer sectors, or one with the uuid of L1 over L2.
+/// A layer of the shelf: L1, L2 over it, L2 of fewer sectors, one of 9 sectors over nothing, or one with
+/// the uuid of L1 over L2.
 #[derive(Clone, Copy)]
 enum Lower {
     First,
     Second,
     Smaller,
+    Larger,
     Again,
 }
 
@@ -45,20 +47,24 @@ fn words_of(alloc: Global, line: &str) -> Result<WordList, AllocError> {
     Ok(WordList::from_vec(words))
 }
 
+// The file of a layer without rows, made one of so many sectors.
+fn of_sectors(file: Vec<u8>, sectors: u8) -> Result<Vec<u8>, AllocError> {
+    let mut file = file;
+    for (at, byte) in file.iter_mut().enumerate() {
+        if at % 4096 == 32 {
+            *byte = sectors;
+        }
+    }
+    Ok(file)
+}
+
 fn lower_file(alloc: Global, lower: Lower) -> Result<Vec<u8>, AllocError> {
     match lower {
         Lower::First => first(alloc),
         Lower::Second => layer_file(alloc, 0x22, 0x11, false, None),
         Lower::Again => layer_file(alloc, 0x11, 0x22, false, None),
-        Lower::Smaller => {
-            let mut file = layer_file(alloc, 0x22, 0x11, false, None)?;
-            for (at, byte) in file.iter_mut().enumerate() {
-                if at % 4096 == 32 {
-                    *byte = 3;
-                }
-            }
-            Ok(file)
-        }
+        Lower::Smaller => of_sectors(layer_file(alloc, 0x22, 0x11, false, None)?, 3),
+        Lower::Larger => of_sectors(layer_file(alloc, 0x11, 0, false, None)?, 9),
     }
 }
 
@@ -130,9 +136,9 @@ fn image_of_8(rt: &impl Abort, alloc: Global) -> Result<MemDisk, AllocError> {
 fn each_refusal_has_its_status_and_line(rt: HostRuntime) -> Result<(), Fail> {
     let alloc = rt.alloc();
     use Failing::{Nobody, Shelf, Sink, Source};
-    use Lower::{Again, First, Second, Smaller};
+    use Lower::{Again, First, Larger, Second, Smaller};
     // words, length of the source, layers, whether there is an image of 8 sectors, who fails
-    let cases: [(&str, usize, &[Lower], bool, Failing, u8, &str); 31] = [
+    let cases: [(&str, usize, &[Lower], bool, Failing, u8, &str); 32] = [
         ("", 0, &[], false, Nobody, 2, "usage"),
         ("read 0 x", 0, &[], true, Nobody, 2, "usage"),
         ("grow 16", 0, &[], true, Nobody, 2, "usage"),
@@ -169,7 +175,16 @@ fn each_refusal_has_its_status_and_line(rt: HostRuntime) -> Result<(), Fail> {
             "layer 1 parent",
         ),
         ("read 0 1", 0, &[], false, Nobody, 3, "no image"),
-        ("read 0 1", 0, &[First], true, Nobody, 3, "size differs"),
+        ("read 0 1", 0, &[Larger], true, Nobody, 3, "size differs"),
+        (
+            "read 0 1",
+            0,
+            &[First],
+            true,
+            Nobody,
+            3,
+            "top 0: parent differs",
+        ),
         (
             "flatten --stdin",
             512,
@@ -297,7 +312,7 @@ fn each_fault_of_a_layer_is_told(rt: HostRuntime) -> Result<(), Fail> {
 fn each_fault_of_an_image_is_told(rt: HostRuntime) -> Result<(), Fail> {
     let alloc = rt.alloc();
     // what is written into the manifest (0), the data (1), the index (2) or the mark (3) of the image
-    let cases: [(u32, u64, &[u8], &str); 19] = [
+    let cases: [(u32, u64, &[u8], &str); 20] = [
         (0, 0, &[0], "no image"),
         (
             0,
@@ -307,7 +322,8 @@ fn each_fault_of_an_image_is_told(rt: HostRuntime) -> Result<(), Fail> {
         ),
         (0, 48, &[0], "manifest bad"),
         (0, 24, &[1], "manifest bad"),
-        (0, 48, &[9], "top 0: head size 8"),
+        (0, 56, &[1], "manifest bad"),
+        (0, 48, &[7], "top 0: head size 8"),
         (1, 0, &[b'X'], "top 0: data bad magic"),
         (1, 8, &[3], "top 0: data bad version 3"),
         (2, 0, &[b'X'], "top 0: index bad magic"),
