@@ -1,11 +1,17 @@
 #!/usr/bin/env bash
 # http.sh [PROGRAM]: flattens a stack of two layers that nginx serves, and that a small server serves well and badly.
 # A server that ignores the range, sends chunked, ends early or says another length has to give `refused: shelf fault`, status 4.
-# It needs nginx and python3. PROGRAM is crates/overlay_tool/out/overlay_tool, as `rt run` leaves it, where none is named.
+# It needs python3 and nginx, and installs nginx from Debian's packages where there is none and it is run as root.
+# PROGRAM is crates/overlay_tool/out/overlay_tool, as `rt run` leaves it, where none is named.
 set -u
 top=$(cd "$(dirname "$0")/.." && pwd)
 program=${1:-$top/crates/overlay_tool/out/overlay_tool}
 [ -x "$program" ] || { echo "run 'rt run' in crates/overlay_tool first"; exit 1; }
+export PATH=$PATH:/usr/sbin
+if ! command -v nginx >/dev/null; then
+  { apt-get update && DEBIAN_FRONTEND=noninteractive apt-get install -y --no-install-recommends nginx; } >/dev/null 2>&1
+  command -v nginx >/dev/null || { echo "install nginx first"; exit 1; }
+fi
 work=$(mktemp -d)
 chmod 755 "$work"
 started=()
