@@ -1,10 +1,10 @@
 #!/usr/bin/env bash
-# Times `flatten --stdin` of a layer of nearly 1 GiB with 20,000 rows, read from a file, beside `cat` moving the same
-# bytes from that file through a pipe.
+# flatten.sh [PROGRAM]: times `flatten --stdin` of a layer of nearly 1 GiB with 20,000 rows, read from a file, and `flatten` of the
+# same layer from a folder, beside `cat` moving the same bytes from that file through a pipe.
 # The layer is made in a temporary folder and removed. It needs python3, and the program as `rt run` leaves it.
 set -eu
 cd "$(dirname "$0")/.."
-program=crates/overlay_tool/out/overlay_tool
+program=$(realpath -m "${1:-crates/overlay_tool/out/overlay_tool}")
 [ -x "$program" ] || { echo "run 'rt run' in crates/overlay_tool first"; exit 1; }
 folder=$(mktemp -d)
 trap 'rm -rf "$folder"' EXIT
@@ -29,11 +29,12 @@ with open(sys.argv[1], 'wb') as file:
 PYTHON
 
 echo "layer: $(stat -c %s "$folder/layer") bytes"
+echo '{"disk": "'"$folder"'", "lowers": {"files": ["'"$folder/layer"'"]}}' > "$folder/config"
 for run in 1 2 3; do
-  for name in cat flatten; do
-    python3 - "$name" "$program" "$folder/layer" <<'PYTHON'
+  for name in cat stdin folder; do
+    python3 - "$name" "$program" "$folder/layer" "$folder/config" <<'PYTHON'
 import resource, subprocess, sys, time
-name, program, layer = sys.argv[1:]
+name, program, layer, config = sys.argv[1:]
 start = time.monotonic()
 with open(layer, 'rb') as file, open('/dev/null', 'wb') as null:
     if name == 'cat':
@@ -41,8 +42,10 @@ with open(layer, 'rb') as file, open('/dev/null', 'wb') as null:
         run = subprocess.Popen(['cat'], stdin=feed.stdout, stdout=null)
         feed.stdout.close()
         feed.wait()
-    else:
+    elif name == 'stdin':
         run = subprocess.Popen([program, 'flatten', '--stdin'], stdin=file, stdout=null)
+    else:
+        run = subprocess.Popen([program, '--config', config, 'flatten'], stdin=subprocess.DEVNULL, stdout=null)
     status = run.wait()
 peak = resource.getrusage(resource.RUSAGE_CHILDREN).ru_maxrss // 1024
 print(f'{name}: {time.monotonic() - start:.2f} s, peak {peak} MiB, status {status}')

@@ -1,7 +1,7 @@
 #!/usr/bin/env bash
 # try_program.sh [PROGRAM]: runs the program over a folder and layers that configurations name, in a temporary folder, as a user
 # would, and compares status, output and the line of a refusal. PROGRAM is crates/overlay_tool/out/overlay_tool, which `rt run` in
-# crates/overlay_tool (or, without proofs, `rt try`) makes. It takes seconds, and needs python3 and a free port on 127.0.0.1.
+# crates/overlay_tool makes. It takes seconds, and needs python3 and a free port on 127.0.0.1.
 set -u
 cd "$(dirname "$0")/.." || exit 1
 top=$PWD
