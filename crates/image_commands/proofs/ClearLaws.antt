@@ -4,7 +4,9 @@ use Rattle.std.specs.Prelude.{Option, Some, None, IfSome, ◌⊎◌}
 use Rattle.block_disk.specs.DiskState.{Files}
 use Rattle.lsmt_header.specs.declared.head.Head.{Head}
 use Rattle.flat_image.specs.declared.act.Act.{Act}
+use Rattle.flat_image.specs.declared.act.Act.TheVariants as act
 use Rattle.flat_image.specs.declared.base.Base.{Base}
+use Rattle.flat_image.specs.Base.{pending_of}
 use Rattle.flat_image.specs.Sectors.{sector_count}
 use Rattle.flat_image.specs.History.{IsOver, rows_taken, sectors_taken}
 use Rattle.flat_image.specs.Stacks.{uppermost, Legal}
@@ -21,8 +23,8 @@ use Rattle.layer_commands.specs.declared.refusal.Refusal.TheVariants as refused
 use Rattle.layer_commands.specs.Prints.{LayerSheet, AreLayers, heads_of, sectors_of}
 use Rattle.layer_commands.specs.Ports.{Ports}
 use Rattle.layer_commands.specs.Causes.{StopsAt}
-use Rattle.image_commands.specs.Images.{DiskPort, LiesOver, acts_of, kept_change, reach_of}
-use Rattle.image_commands.specs.ImageCauses.{IsCreate, HaveOtherSize, HoldsNone, GoesPast, IsFull, ImageCause, CommandCause}
+use Rattle.image_commands.specs.Images.{DiskPort, LiesOver, StartsAt, acts_of, kept_change, reach_of}
+use Rattle.image_commands.specs.ImageCauses.{IsCreate, HaveOtherSize, HoldsNone, GoesPast, IsFull, HasCommit, IsAsLarge, ImageCause, CommandCause}
 use Rattle.image_commands.specs.declared.refusal.ImageRefusal.{ImageRefusal}
 use Rattle.image_commands.specs.declared.refusal.ImageRefusal.TheVariants.{Load, Other}
 use Rattle.image_commands.specs.Clear.{HaveAskedSize, IsOpen, IsReady, IsClear}
@@ -60,6 +62,12 @@ module _ (command : Command) (files : List (List ℕ)) (disk : DiskPort) (bytes 
       (subst (λ (a : ℕ). IsOver (a + rows_taken change) (ready.base.filled + sectors_taken change)) (sym (ap (λ (b : Base). b.rows) same-base))
       (subst (λ (b : ℕ). IsOver (other.rows + rows_taken change) (b + sectors_taken change)) (sym (ap (λ (b : Base). b.filled) same-base)) full))
 
+  not-busy : (uuid : List ℕ) → pending_of other.frozen ≡ Some uuid → ⊥
+  not-busy uuid pending = let free : pending_of other.frozen ≡ None = sym (ap (λ (b : Base). pending_of b.frozen) same-base) ∙ ap pending_of ready.none_frozen in cc
+
+  not-as_large : (sectors : ℕ) → command ≡ Grow sectors → sectors ≤ other.sectors → ⊥
+  not-as_large sectors grows within = let size = ap (λ (b : Base). b.sectors) same-base in let larger = ready.larger sectors grows in omega (arith, size, larger, within)
+
 -- the bytes of a write are those that the source has
 same-bytes : (left : Option (List ℕ)) (bytes other : List ℕ) → left ≡ Some bytes → IfSome left (λ all. other ≡ all) → other ≡ bytes
 same-bytes left bytes other e told = IfSome-at left (λ all. other ≡ all) bytes e told
@@ -78,7 +86,7 @@ past-clear (Write at) before now disk disk_now clear past =
 past-clear (Flatten stdin) before now disk disk_now clear past = clear.ready
 past-clear (Info number) before now disk disk_now clear past = clear.ready
 past-clear Stack before now disk disk_now clear past = clear.ready
-past-clear (Grow sectors) before now disk disk_now clear past = clear.ready
+past-clear (Grow sectors) before now disk disk_now clear past = let p = past.past in omega (arith, p)
 past-clear (Commit uuid) before now disk disk_now clear past = clear.ready
 past-clear Sweep before now disk disk_now clear past = clear.ready
 past-clear (Make seed acts) before now disk disk_now clear past = clear.ready
@@ -97,11 +105,23 @@ full-clear (Write at) before now disk disk_now rows sectors clear full =
 full-clear (Flatten stdin) before now disk disk_now rows sectors clear full = clear.ready
 full-clear (Info number) before now disk disk_now rows sectors clear full = clear.ready
 full-clear Stack before now disk disk_now rows sectors clear full = clear.ready
-full-clear (Grow size) before now disk disk_now rows sectors clear full = clear.ready
+full-clear (Grow size) before now disk disk_now rows sectors clear full = let e : act.Grow size ∷ [] ≡ kept_change full.change = full.asked in cc
 full-clear (Commit uuid) before now disk disk_now rows sectors clear full = clear.ready
 full-clear Sweep before now disk disk_now rows sectors clear full = clear.ready
 full-clear (Make seed acts) before now disk disk_now rows sectors clear full = clear.ready
 full-clear (Export connections) before now disk disk_now rows sectors clear full = clear.ready
+
+busy-clear : (command : Command) (before now : Ports) (disk disk_now : DiskPort) (uuid : List ℕ) → IsClear command before now disk disk_now → HasCommit command before disk uuid → ⊥
+busy-clear command before now disk disk_now uuid clear busy =
+    let ready = subst (λ (c : Command). IsReady c before.left clear.files clear.layers disk) busy.grows clear.ready in
+    let starts = subst (λ (c : Command). StartsAt c before.count disk busy.base) busy.grows busy.opens.starts in
+    not-busy (Grow busy.sectors) clear.files disk [] ready before.files before.count clear.told clear.tells busy.base busy.opens.over starts.shows uuid busy.pending
+
+large-clear : (command : Command) (before now : Ports) (disk disk_now : DiskPort) (sectors : ℕ) → IsClear command before now disk disk_now → IsAsLarge command before disk sectors → ⊥
+large-clear command before now disk disk_now sectors clear large =
+    let ready = subst (λ (c : Command). IsReady c before.left clear.files clear.layers disk) large.grows clear.ready in
+    let starts = subst (λ (c : Command). StartsAt c before.count disk large.base) large.grows large.opens.starts in
+    not-as_large (Grow large.wanted) clear.files disk [] ready before.files before.count clear.told clear.tells large.base large.opens.over starts.shows large.wanted refl large.within
 
 opened-by : (command : Command) (left : Option (List ℕ)) (files : List (List ℕ)) (layers : List LayerSheet) (disk : DiskPort) → (IsCreate command → ⊥) → IsReady command left files layers disk
     → (bytes : List ℕ) × IsOpen command files disk bytes
@@ -112,7 +132,7 @@ opened-by (Write at) left files layers disk other ready = (ready.0, ready.3)
 opened-by (Flatten stdin) left files layers disk other ready = absurd ready
 opened-by (Info number) left files layers disk other ready = absurd ready
 opened-by Stack left files layers disk other ready = absurd ready
-opened-by (Grow sectors) left files layers disk other ready = absurd ready
+opened-by (Grow sectors) left files layers disk other ready = ([], ready)
 opened-by (Commit uuid) left files layers disk other ready = absurd ready
 opened-by Sweep left files layers disk other ready = absurd ready
 opened-by (Make seed acts) left files layers disk other ready = absurd ready
@@ -184,6 +204,8 @@ clear-memory command before now disk disk_now refused.ImageExists counted clear 
     absurd (exists clear.tells ready.1)
 clear-memory command before now disk disk_now refused.OutOfRange counted clear cause = absurd (past-clear command before now disk disk_now clear cause.0)
 clear-memory command before now disk disk_now (refused.Full rows sectors) counted clear cause = absurd (full-clear command before now disk disk_now rows sectors clear cause.0)
+clear-memory command before now disk disk_now (refused.Busy uuid) counted clear cause = absurd (busy-clear command before now disk disk_now uuid clear cause.0)
+clear-memory command before now disk disk_now (refused.NotLarger sectors) counted clear cause = absurd (large-clear command before now disk disk_now sectors clear cause.0)
 clear-memory command before now disk disk_now other counted clear cause = absurd cause
 
 pub clear-command : (command : Command) (before now : Ports) (disk disk_now : DiskPort) (refusal : ImageRefusal) → IfSome before.files (λ files. length files ≡ before.count)

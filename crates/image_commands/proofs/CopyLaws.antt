@@ -112,3 +112,5 @@ cause-after old mid new shelf shelf_mid shelf_now sink sink_mid sink_now refused
 cause-after old mid new shelf shelf_mid shelf_now sink sink_mid sink_now refused.NotWholeSectors adds later shelf_later sink_later cause = absurd cause
 cause-after old mid new shelf shelf_mid shelf_now sink sink_mid sink_now refused.OutOfRange adds later shelf_later sink_later cause = absurd cause
 cause-after old mid new shelf shelf_mid shelf_now sink sink_mid sink_now (refused.Full rows sectors) adds later shelf_later sink_later cause = absurd cause
+cause-after old mid new shelf shelf_mid shelf_now sink sink_mid sink_now (refused.Busy uuid) adds later shelf_later sink_later cause = absurd cause
+cause-after old mid new shelf shelf_mid shelf_now sink sink_mid sink_now (refused.NotLarger sectors) adds later shelf_later sink_later cause = absurd cause

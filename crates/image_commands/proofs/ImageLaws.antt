@@ -1,15 +1,19 @@
 -- What an opened image and the acts on it come to, for the command that opened it.
-use Rattle.std.proofs.Common.{◌≡◌, ℕ, ◌+◌, ◌-◌, ◌*◌, ◌^◌, ◌<◌, ◌≤◌, Bool, true, false, IsTrue, List, [], length, take, drop, sym, ap, ◌∙◌, subst, arith}
-use Rattle.std.specs.Prelude.{Option, Some, IfSome}
+use Rattle.std.proofs.Common.{◌≡◌, ℕ, ◌+◌, ◌-◌, ◌*◌, ◌^◌, ◌<◌, ◌≤◌, Bool, true, false, IsTrue, List, [], length, take, drop, refl, sym, ap, ◌∙◌, subst, arith}
+use Rattle.std.specs.Prelude.{Option, Some, None, IfSome}
+use Rattle.std.specs.Option.{option_map}
 use Rattle.std.proofs.lemmas.List.{length-take-le, length-drop}
 use Rattle.std.proofs.lemmas.List.Elements.{All-take, All-drop}
 use Rattle.block_disk.specs.DiskState.{Files, Leaves}
 use Rattle.flat_image.specs.declared.base.Base.{Base}
+use Rattle.flat_image.specs.Base.{pending_of}
+use Rattle.flat_image.specs.Frozen.{Frozen}
 use Rattle.flat_image.specs.Sheets.{IsSector}
 use Rattle.flat_image.specs.History.{History, after, reply}
 use Rattle.flat_image.proofs.Painting.{length-bytes_of}
 use Rattle.image_core.specs.Shows.{Shows}
-use Rattle.image_core.specs.View.{AreLayersOf}
+use Rattle.image_core.specs.View.{AreLayersOf, CommitView, IsCommitOf}
+use Rattle.image_core.specs.Growing.{pending_in}
 use Rattle.image_core.specs.Parts.{parts_view}
 use Rattle.image_core.specs.Standing.{ShowsLeft, ViewStands}
 use Rattle.image_core.proofs.Lifts.{keeps-stands}
@@ -27,6 +31,13 @@ stands-for : (image : Seen) (base : Base) (history : History) → StandsFor imag
 stands-for image base history stands =
     keeps-stands image.tells image.state image.faults (parts_view image.parts) base history (parts-keep image base history stands)
 
+-- what is frozen has the uuid of the commit in progress
+same-pending : (epoch : ℕ) (frozen : Option Frozen) (commit : Option CommitView) → IsCommitOf epoch frozen commit → option_map (λ c. c.uuid) commit ≡ pending_of frozen
+same-pending epoch None None is = refl
+same-pending epoch None (Some commit) is = absurd is
+same-pending epoch (Some frozen) None is = absurd is
+same-pending epoch (Some frozen) (Some commit) is = ap (λ (u : List ℕ). Some u) is.0
+
 -- ---- an image for which nothing was done yet
 
 module _ (image : Seen) (base : Base) (stands : StandsFor image base []) where
@@ -41,6 +52,10 @@ module _ (image : Seen) (base : Base) (stands : StandsFor image base []) where
 
   pub filled-is : (parts_view image.parts).filled ≡ base.filled
   filled-is = (stands-for image base [] stands).view.filled
+
+  -- the commit in progress
+  pub pending-is : pending_in (parts_view image.parts) ≡ pending_of base.frozen
+  pending-is = same-pending (length base.done) base.frozen (parts_view image.parts).commit (stands-for image base [] stands).view.commit
 
   pub none-done : (parts_view image.parts).steps ≡ 0
   none-done = stands.steps

@@ -9,3 +9,4 @@ pub mod Answered
 pub mod TellLaws
 pub mod MakeLaws
 pub mod ClearLaws
+pub mod GrowLaws

@@ -3,6 +3,7 @@ use Rattle.std.proofs.Common.{◌≡◌, ℕ, ◌+◌, ◌-◌, ◌*◌, ◌<◌
 use Rattle.std.specs.Prelude.{Result, OnOk, OnErr, IfErr}
 use Rattle.byte_ports.proofs.Chains.{AppendsFront-more}
 use Rattle.block_disk.specs.DiskState.{Leaves}
+use Rattle.flat_image.specs.declared.act.Asked.TheVariants.{Nothing}
 use Rattle.flat_image.specs.declared.base.Base.{Base}
 use Rattle.flat_image.specs.History.{History, reply}
 use Rattle.tool_setup.specs.declared.command.Command.TheVariants.{Read}
@@ -57,7 +58,7 @@ module _ (at count : ℕ) (before now : Ports) (disk : DiskPort) (old new : Seen
         front = AppendsFront-more before.written now.written front.bytes rest front.front;
       }
 
-  pub read-began : (history : History) → IsBegun [] disk.faults new.faults history → Adds history old new → WritesFront old before.files at count before.written now.written
+  pub read-began : (history : History) → IsBegun [] Nothing disk.faults new.faults history → Adds history old new → WritesFront old before.files at count before.written now.written
       → Began (Read at count) before now disk (port_of new)
   read-began history begun adds front = record {
     bytes = [];
@@ -70,10 +71,10 @@ module _ (at count : ℕ) (before now : Ports) (disk : DiskPort) (old new : Seen
     prints = read-front front;
   }
 
-  none-begun : IsBegun [] disk.faults new.faults []
+  none-begun : IsBegun [] Nothing disk.faults new.faults []
   none-begun = record { front = []; starts = record { rest = []; is = refl }; is = inl refl }
 
-  fault-begun : disk.faults < new.faults → IsBegun [] disk.faults new.faults fault
+  fault-begun : disk.faults < new.faults → IsBegun [] Nothing disk.faults new.faults fault
   fault-begun rose = record { front = []; starts = record { rest = []; is = refl }; is = inr (rose, refl) }
 
   opened-only : Adds [] old new → WritesFront old before.files at count before.written now.written → OpenedOnly (Read at count) before now disk (port_of new)

@@ -143,6 +143,17 @@ shows-kept base act files is all left =
     (λ uuid blamed. no-blame (entries (kept_change act)) blamed.front blamed.rest blamed.number (Uuid uuid) good blamed.splits)
     (λ sectors blamed. no-blame (entries (kept_change act)) blamed.front blamed.rest blamed.number (Sectors sectors) good blamed.splits)
 
+grow-good : (sectors : ℕ) (asked : Asked) → Grow sectors ≡ Fault asked → ⊥
+grow-good sectors asked e = cc
+
+-- and of a grow, the base with so many sectors
+pub shows-grown : (base : Base) (sectors : ℕ) (files : Files) → ShowsLeft base (entries (Grow sectors ∷ [])) files → Shows files (now base (entries (Grow sectors ∷ [])))
+shows-grown base sectors files left =
+    let good : All IsGood (entries (Grow sectors ∷ [])) = All-cons IsGood (entry 0 (Grow sectors)) [] (grow-good sectors) (All-nil IsGood) in
+    kept-shows base (entries (Grow sectors ∷ [])) files left refl
+    (λ uuid blamed. no-blame (entries (Grow sectors ∷ [])) blamed.front blamed.rest blamed.number (Uuid uuid) good blamed.splits)
+    (λ n blamed. no-blame (entries (Grow sectors ∷ [])) blamed.front blamed.rest blamed.number (Sectors n) good blamed.splits)
+
 -- ---- what is read
 
 pub reply-read : (base : Base) (h more : History) (at count : ℕ) → without_reads more ≡ [] → reply base (h ++ more) at count ≡ reply base h at count

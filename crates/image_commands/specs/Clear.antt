@@ -1,5 +1,5 @@
 -- When nothing stands in the way of a command on an image.
-use Rattle.std.specs.Prelude.{◌≡◌, ℕ, ◌+◌, ◌≤◌, IsTrue, List, [], length, Option, Some, None}
+use Rattle.std.specs.Prelude.{◌≡◌, ℕ, ◌+◌, ◌<◌, ◌≤◌, IsTrue, List, [], length, Option, Some, None}
 use Rattle.flat_image.specs.declared.act.Act.{Act}
 use Rattle.flat_image.specs.declared.base.Base.{Base}
 use Rattle.flat_image.specs.History.{IsOver, rows_taken, sectors_taken}
@@ -20,7 +20,7 @@ HaveAskedSize None files layers = 1 ≤ length files
 HaveAskedSize (Some sectors) files layers = 1 ≤ length files → sectors_of layers ≤ sectors
 
 -- The disk's files show an image without commits over these lower files, with no sequence over 2^61; the command's sectors
--- lie in it, and there is room for its change.
+-- lie in it, there is room for its change, and a grow asks for more sectors.
 pub record IsOpen (command : Command) (files : List (List ℕ)) (disk : DiskPort) (bytes : List ℕ) : Type 0 where
   pub base : Base
   pub over : base.lowers ≡ files
@@ -30,6 +30,7 @@ pub record IsOpen (command : Command) (files : List (List ℕ)) (disk : DiskPort
   pub none_frozen : base.frozen ≡ None
   pub within : reach_of command bytes ≤ base.sectors
   pub room : (change : Act) → acts_of command bytes ≡ kept_change change → IsOver (base.rows + rows_taken change) (base.filled + sectors_taken change) → ⊥
+  pub larger : (sectors : ℕ) → command ≡ Grow sectors → base.sectors < sectors
 
 -- what the source, the layers and the disk have to be for the command
 abbrev pub IsReady : Command → Option (List ℕ) → List (List ℕ) → List LayerSheet → DiskPort → Type 0
@@ -40,7 +41,7 @@ IsReady (Zero at count) left files layers disk = IsOpen (Zero at count) files di
 IsReady (Flatten stdin) left files layers disk = ⊥
 IsReady (Info number) left files layers disk = ⊥
 IsReady Stack left files layers disk = ⊥
-IsReady (Grow sectors) left files layers disk = ⊥
+IsReady (Grow sectors) left files layers disk = IsOpen (Grow sectors) files disk []
 IsReady (Commit uuid) left files layers disk = ⊥
 IsReady Sweep left files layers disk = ⊥
 IsReady (Make seed acts) left files layers disk = ⊥

@@ -6,6 +6,7 @@ use Rattle.block_disk.specs.Claims.{Quiet}
 use Rattle.gate_mark.specs.MarkFile.{mark_of}
 use Rattle.flat_image.specs.declared.act.Act.{Act}
 use Rattle.flat_image.specs.declared.base.Base.{Base}
+use Rattle.flat_image.specs.Base.{pending_of}
 use Rattle.flat_image.specs.History.{IsOver, rows_taken, sectors_taken}
 use Rattle.flat_image.specs.Stacks.{Legal}
 use Rattle.layer_stack.specs.Faults.{IsStackFault}
@@ -110,6 +111,24 @@ pub record IsFull (command : Command) (before : Ports) (disk disk_now : DiskPort
   pub over : IsOver (base.rows + rows_taken change) (base.filled + sectors_taken change)
   pub crash : LeavesOf disk_now base []
 
+-- the image that was to grow has the commit of this uuid in progress
+pub record HasCommit (command : Command) (before : Ports) (disk : DiskPort) (uuid : List ℕ) : Type 0 where
+  pub sectors : ℕ
+  pub grows : command ≡ Grow sectors
+  pub base : Base
+  pub opens : Opens command before disk [] base
+  pub pending : pending_of base.frozen ≡ Some uuid
+
+-- the image has so many sectors, no fewer than it was to have, and no commit is in progress
+pub record IsAsLarge (command : Command) (before : Ports) (disk : DiskPort) (sectors : ℕ) : Type 0 where
+  pub wanted : ℕ
+  pub grows : command ≡ Grow wanted
+  pub base : Base
+  pub opens : Opens command before disk [] base
+  pub free : pending_of base.frozen ≡ None
+  pub is : sectors ≡ base.sectors
+  pub within : wanted ≤ base.sectors
+
 -- a creation failed on a disk that held no image, and of the disk nothing more is said
 abbrev pub FailsToMake : Command → Ports → Ports → DiskPort → Type 0
 FailsToMake command before now disk =
@@ -162,6 +181,10 @@ ImageCause command before now disk disk_now refused.OutOfRange =
     GoesPast command before disk disk_now × Untouched before now disk disk_now
 ImageCause command before now disk disk_now (refused.Full rows sectors) =
     IsFull command before disk disk_now rows sectors × Keeps before.written now.written
+ImageCause command before now disk disk_now (refused.Busy uuid) =
+    HasCommit command before disk uuid × Untouched before now disk disk_now
+ImageCause command before now disk disk_now (refused.NotLarger sectors) =
+    IsAsLarge command before disk sectors × Untouched before now disk disk_now
 ImageCause command before now disk disk_now refused.DiskFault = DiskFailed command before now disk disk_now
 ImageCause command before now disk disk_now refused.ShelfFault =
     (before.shelf_faults < now.shelf_faults) × IsFed command before

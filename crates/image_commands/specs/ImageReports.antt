@@ -2,7 +2,7 @@
 use Rattle.std.specs.Prelude.{ℕ, List, [], ◌∷◌, codes, decimal}
 use Rattle.std.specs.List.{concat}
 
--- the lines of `create`, `write` and `zero`
+-- the lines of `create`, `write`, `zero` and `grow`
 abbrev pub created_line : ℕ → ℕ → List ℕ
 created_line sectors layers = concat (codes "created sectors " ∷ decimal sectors ∷ codes " layers " ∷ decimal layers ∷ codes "\n" ∷ [])
 
@@ -11,3 +11,6 @@ wrote_line at count = concat (codes "wrote " ∷ decimal at ∷ codes " " ∷ de
 
 abbrev pub zeroed_line : ℕ → ℕ → List ℕ
 zeroed_line at count = concat (codes "zeroed " ∷ decimal at ∷ codes " " ∷ decimal count ∷ codes "\n" ∷ [])
+
+abbrev pub grown_line : ℕ → List ℕ
+grown_line sectors = concat (codes "grown " ∷ decimal sectors ∷ codes "\n" ∷ [])

@@ -6,7 +6,8 @@ use Rattle.block_disk.specs.DiskState.{DiskState}
 use Rattle.block_disk.specs.Claims.{Quiet}
 use Rattle.flat_image.specs.declared.act.Act.{Act}
 use Rattle.flat_image.specs.declared.act.Act.TheVariants.{Read, Write, Zero, Flush, Freeze, Seal, Grow, Fault}
-use Rattle.flat_image.specs.declared.act.Asked.TheVariants.{Nothing}
+use Rattle.flat_image.specs.declared.act.Asked.{Asked}
+use Rattle.flat_image.specs.declared.act.Asked.TheVariants.{Nothing, Sectors}
 use Rattle.flat_image.specs.declared.base.Base.{Base}
 use Rattle.flat_image.specs.Entries.{entry, StartsWith}
 use Rattle.flat_image.specs.History.{History, reply, IsOver, rows_taken, sectors_taken}
@@ -19,6 +20,9 @@ use Rattle.layer_commands.specs.Flattening.{upper_sectors}
 use Rattle.image_core.specs.Numbers.{manifest_file}
 use Rattle.image_core.specs.declared.creating.CreateFault.{CreateFault}
 use Rattle.image_core.specs.declared.creating.CreateFault.TheVariants as create
+use Rattle.image_core.specs.declared.growing.GrowFault.{GrowFault}
+use Rattle.image_core.specs.declared.growing.GrowFault.TheVariants as grow
+use Rattle.image_core.specs.Growing.{pending_in}
 use Rattle.image_core.specs.declared.whole.WholeFault.{WholeFault}
 use Rattle.image_core.specs.declared.whole.WholeFault.TheVariants as whole
 use Rattle.image_core.specs.Parts.{parts_view}
@@ -73,9 +77,12 @@ pub record Adds (acts : History) (old new : Seen) : Type 0 where
   pub stands : (base : Base) (history : History) → StandsFor old base history
       → (more : History) × (without_reads more ≡ acts) × StandsFor new base (history ++ more)
 
--- a failed step
+-- a failed step that asked for this, and one that asked for nothing that is named
+abbrev pub fault_of : Asked → History
+fault_of asked = entry 0 (Fault asked) ∷ []
+
 abbrev pub fault : History
-fault = entry 0 (Fault Nothing) ∷ []
+fault = fault_of Nothing
 
 -- the bytes are sectors of the image: so many, and which they are where the disk and the shelf tell
 pub record AreSectors (image : Seen) (told : Option (List (List ℕ))) (at count : ℕ) (bytes : List ℕ) : Type 0 where
@@ -125,6 +132,38 @@ abbrev pub change_refused_as : WriteFault → Refusal
 change_refused_as (write.Full rows sectors) = refused.Full rows sectors
 change_refused_as write.Memory = refused.Memory
 change_refused_as write.Failed = refused.DiskFault
+
+-- what the fault of a grow is refused as
+abbrev pub grow_refused_as : GrowFault → Refusal
+grow_refused_as (grow.Busy uuid) = refused.Busy uuid
+grow_refused_as (grow.NotLarger sectors) = refused.NotLarger sectors
+grow_refused_as grow.Failed = refused.DiskFault
+
+-- a grow was refused, and nothing of the image or its disk is another
+pub record NoGrow (old new : Seen) : Type 0 where
+  pub adds : Adds [] old new
+  pub same : Quiet old.state new.state
+
+-- why an image did not grow to so many sectors
+abbrev pub GrowCause : ℕ → (old new : Seen) → Refusal → Type 0
+GrowCause sectors old new (refused.Busy uuid) = (pending_in (parts_view old.parts) ≡ Some uuid) × NoGrow old new
+GrowCause sectors old new (refused.NotLarger n) =
+    (pending_in (parts_view old.parts) ≡ None) × (n ≡ size_of old) × (sectors ≤ n) × NoGrow old new
+GrowCause sectors old new refused.DiskFault = (old.faults < new.faults) × Adds (fault_of (Sectors sectors)) old new
+GrowCause sectors old new other = ⊥
+
+-- why a grow and the line that tells of it were not both done, and what was written then
+abbrev pub GrowTold : ℕ → List ℕ → (old new : Seen) → (sink sink_now : ℕ) → (written written_now : Option (List ℕ)) → Refusal → Type 0
+GrowTold sectors line old new sink sink_now written written_now refused.Memory = Adds [] old new × Keeps written written_now
+GrowTold sectors line old new sink sink_now written written_now refused.DiskFault =
+    GrowCause sectors old new refused.DiskFault × Keeps written written_now
+GrowTold sectors line old new sink sink_now written written_now (refused.Busy uuid) =
+    GrowCause sectors old new (refused.Busy uuid) × Keeps written written_now
+GrowTold sectors line old new sink sink_now written written_now (refused.NotLarger n) =
+    GrowCause sectors old new (refused.NotLarger n) × Keeps written written_now
+GrowTold sectors line old new sink sink_now written written_now refused.SinkFault =
+    (sink < sink_now) × Adds (entries (Grow sectors ∷ [])) old new × AppendsFront written written_now line
+GrowTold sectors line old new sink sink_now written written_now other = ⊥
 
 -- the disk of an image
 abbrev pub port_of : Seen → DiskPort

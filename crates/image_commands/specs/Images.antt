@@ -6,7 +6,8 @@ use Rattle.block_disk.specs.DiskState.{DiskState, Files, Leaves}
 use Rattle.gate_mark.specs.MarkFile.{mark_of}
 use Rattle.flat_image.specs.declared.act.Act.{Act}
 use Rattle.flat_image.specs.declared.act.Act.TheVariants as act
-use Rattle.flat_image.specs.declared.act.Asked.TheVariants.{Nothing}
+use Rattle.flat_image.specs.declared.act.Asked.{Asked}
+use Rattle.flat_image.specs.declared.act.Asked.TheVariants.{Nothing, Sectors}
 use Rattle.flat_image.specs.declared.base.Base.{Base}
 use Rattle.flat_image.specs.Base.{top_size}
 use Rattle.flat_image.specs.Entries.{entry, StartsWith}
@@ -25,7 +26,7 @@ use Rattle.layer_commands.specs.Ports.{Ports}
 use Rattle.layer_shelf.specs.declared.shelves.Shelf as shelves
 use Rattle.byte_ports.specs.declared.ports.Sink as sinks
 use Rattle.block_disk.specs.declared.disk.Disk as disks
-use Rattle.image_commands.specs.ImageReports.{created_line, wrote_line, zeroed_line}
+use Rattle.image_commands.specs.ImageReports.{created_line, grown_line, wrote_line, zeroed_line}
 
 -- a disk at one moment: whether disks of its type tell, what there is to know of it, and its faults so far
 pub record DiskPort : Type 1 where
@@ -78,7 +79,7 @@ abbrev pub acts_of : Command → List ℕ → List Act
 acts_of (Flatten stdin) bytes = []
 acts_of (Info number) bytes = []
 acts_of Stack bytes = []
-acts_of (Grow sectors) bytes = []
+acts_of (Grow sectors) bytes = act.Grow sectors ∷ []
 acts_of (Commit uuid) bytes = []
 acts_of Sweep bytes = []
 acts_of (Make seed acts) bytes = []
@@ -87,6 +88,21 @@ acts_of (Create asked) bytes = []
 acts_of (Read at count) bytes = []
 acts_of (Write at) bytes = kept_change (act.Write at bytes)
 acts_of (Zero at count) bytes = kept_change (act.Zero at count)
+
+-- what a failed step of a command asked for: a grow its sectors, the others nothing that is named
+abbrev pub asked_by : Command → Asked
+asked_by (Grow sectors) = Sectors sectors
+asked_by (Flatten stdin) = Nothing
+asked_by (Info number) = Nothing
+asked_by Stack = Nothing
+asked_by (Commit uuid) = Nothing
+asked_by Sweep = Nothing
+asked_by (Make seed acts) = Nothing
+asked_by (Export connections) = Nothing
+asked_by (Create sectors) = Nothing
+asked_by (Read at count) = Nothing
+asked_by (Write at) = Nothing
+asked_by (Zero at count) = Nothing
 
 -- acts as the entries of a history
 abbrev pub entries : List Act → History
@@ -144,7 +160,7 @@ abbrev pub StartsAt : Command → ℕ → DiskPort → Base → Type 0
 StartsAt (Flatten stdin) layers disk base = ⊥
 StartsAt (Info number) layers disk base = ⊥
 StartsAt Stack layers disk base = ⊥
-StartsAt (Grow sectors) layers disk base = ⊥
+StartsAt (Grow sectors) layers disk base = IsFound disk base
 StartsAt (Commit uuid) layers disk base = ⊥
 StartsAt Sweep layers disk base = ⊥
 StartsAt (Make seed acts) layers disk base = ⊥
@@ -170,7 +186,7 @@ IsPrinted (Zero at count) before disk bytes base text = text ≡ zeroed_line at 
 IsPrinted (Flatten stdin) before disk bytes base text = ⊥
 IsPrinted (Info number) before disk bytes base text = ⊥
 IsPrinted Stack before disk bytes base text = ⊥
-IsPrinted (Grow sectors) before disk bytes base text = ⊥
+IsPrinted (Grow sectors) before disk bytes base text = text ≡ grown_line sectors
 IsPrinted (Commit uuid) before disk bytes base text = ⊥
 IsPrinted Sweep before disk bytes base text = ⊥
 IsPrinted (Make seed acts) before disk bytes base text = ⊥
@@ -206,10 +222,10 @@ pub record Does (command : Command) (before now : Ports) (disk disk_now : DiskPo
   pub prints : Prints command before now disk bytes base
 
 -- the history is a beginning of the acts, with a failed step behind it only where the disk's count of faults rose
-pub record IsBegun (acts : History) (before now : ℕ) (history : History) : Type 0 where
+pub record IsBegun (acts : History) (asked : Asked) (before now : ℕ) (history : History) : Type 0 where
   pub front : History
   pub starts : StartsWith acts front
-  pub is : (history ≡ front) ⊎ ((before < now) × (history ≡ front ++ entry 0 (act.Fault Nothing) ∷ []))
+  pub is : (history ≡ front) ⊎ ((before < now) × (history ≡ front ++ entry 0 (act.Fault asked) ∷ []))
 
 -- The image was opened, or made, and acts on it were begun: a crash leaves what it leaves of these. A front of what the
 -- command prints was written.
@@ -219,6 +235,6 @@ pub record Began (command : Command) (before now : Ports) (disk disk_now : DiskP
   pub opens : Opens command before disk bytes base
   pub within : reach_of command bytes ≤ base.sectors
   pub history : History
-  pub begun : IsBegun (entries_of command bytes) disk.faults disk_now.faults history
+  pub begun : IsBegun (entries_of command bytes) (asked_by command) disk.faults disk_now.faults history
   pub crash : LeavesOf disk_now base history
   pub prints : PrintsFront command before now disk bytes base

@@ -1,6 +1,6 @@
 //! The lines that commands on an image print.
 ghost use Rattle.std.specs.Prelude.{◌≡◌, string_bytes, IfOk};
-ghost use Rattle.image_commands.specs.ImageReports.{created_line, wrote_line, zeroed_line};
+ghost use Rattle.image_commands.specs.ImageReports.{created_line, grown_line, wrote_line, zeroed_line};
 
 use std::alloc::{AllocError, Global};
 
@@ -23,4 +23,11 @@ pub fn zeroed_report(alloc: Global, at: u64, count: u64) -> Result<String, Alloc
     ensures { IfOk result (λ text. string_bytes text ≡ zeroed_line at count) }
 {
     format!(in alloc; "zeroed {at} {count}\n")
+}
+
+/// The line of `grow` on an image that has so many sectors now.
+pub fn grown_report(alloc: Global, sectors: u64) -> Result<String, AllocError>
+    ensures { IfOk result (λ text. string_bytes text ≡ grown_line sectors) }
+{
+    format!(in alloc; "grown {sectors}\n")
 }

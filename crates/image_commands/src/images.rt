@@ -2,7 +2,7 @@
 ghost use Rattle.std.specs.Prelude.{◌≡◌, ℕ, ◌+◌, ◌≤◌, ◌↔◌, List, Option, IsTrue, IfSome, IfErr, IsErrOf, OnOk};
 ghost use Rattle.sector_extent.specs.Causes.{Charges};
 ghost use Rattle.lsmt_header.specs.Blocks.{IsSize};
-ghost use Rattle.tool_setup.specs.declared.command.Command.TheVariants.{Create, Read, Write, Zero};
+ghost use Rattle.tool_setup.specs.declared.command.Command.TheVariants.{Create, Grow, Read, Write, Zero};
 ghost use Rattle.layer_commands.specs.declared.refusal.Refusal.TheVariants as refused;
 ghost use Rattle.layer_commands.specs.Input.{TakesSectors};
 ghost use Rattle.layer_commands.specs.Ports.{TakesAtMost, ports_of};
@@ -12,6 +12,7 @@ ghost use Rattle.image_commands.specs.ImageCauses.{CommandCause};
 
 use crate::changing::{write_told, zero_told};
 use crate::copying::{copy_sectors, extent_of};
+use crate::growing::grow_told;
 use crate::making::make_image;
 use crate::opening::open_image;
 use crate::reading::read_sectors;
@@ -172,6 +173,37 @@ pub fn write_image<A: Source, B: Sink, S: Shelf, D: Disk>(
         Ok(bytes) => write_bytes(alloc, at, bytes.as_slice(), shelf, disk, out),
         Err(refusal) => (Err(ImageRefusal::Other(refusal)), disk),
     }
+}
+
+/// Lets the image have so many sectors, and tells of it.
+pub fn grow_image<B: Sink, S: Shelf, D: Disk>(
+    alloc: Global,
+    sectors: u64,
+    shelf: &mut S,
+    disk: D,
+    out: &mut B,
+) -> (Result<(), ImageRefusal>, D)
+    requires { IsSize sectors }
+    ensures done { (left left_now : Option (List ℕ)) (source source_now : ℕ)
+        → OnOk result.0 (Does (Grow sectors)
+        (beside left source B.Sink S.Shelf out.old shelf.old)
+        (beside left_now source_now B.Sink S.Shelf out.new shelf.new)
+        (disk_port D.Disk disk) (disk_port D.Disk result.1)) }
+    ensures refused { (left left_now : Option (List ℕ)) (source source_now : ℕ)
+        → IfErr result.0 (CommandCause (Grow sectors)
+        (beside left source B.Sink S.Shelf out.old shelf.old)
+        (beside left_now source_now B.Sink S.Shelf out.new shelf.new)
+        (disk_port D.Disk disk) (disk_port D.Disk result.1)) }
+    ensures disk_cause { Charges D.faults disk result.1 (IsErrOf result.0 (Other refused.DiskFault)) }
+    ensures shelf_cause { Charges S.faults shelf.old shelf.new (IsErrOf result.0 (Other refused.ShelfFault)) }
+    ensures sink_cause { Charges B.faults out.old out.new (IsErrOf result.0 (Other refused.SinkFault)) }
+{
+    let mut image = match open_image(alloc, shelf, disk) {
+        Ok(image) => image,
+        Err((disk, refusal)) => return (Err(refusal), disk),
+    };
+    let result = grow_told(alloc, &mut image, sectors, out);
+    (as_command(result), image.into_disk())
 }
 
 /// Makes an image on the disk over the shelf's layers, and tells of it.

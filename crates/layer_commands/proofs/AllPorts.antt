@@ -23,7 +23,7 @@ from_source l l' w w' f f' a a' s s' n n' h h' refused.NoLayer cause = absurd ca
 from_source l l' w w' f f' a a' s s' n n' h h' (refused.Stack fault) cause = absurd cause.0
 from_source l l' w w' f f' a a' s s' n n' h h' other cause = absurd cause
 
-none_taken : (left : Option (List ℕ)) → TakesAtMost left left 0
+pub none_taken : (left : Option (List ℕ)) → TakesAtMost left left 0
 none_taken left = ([], Consumes-nil left, omega arith)
 
 pub from_flatten : (l w w' : Option (List ℕ)) (f f' : Option (List (List ℕ))) (a s s' n n' h h' : ℕ) (refusal : Refusal)

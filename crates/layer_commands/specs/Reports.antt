@@ -3,13 +3,9 @@ use Rattle.std.specs.Prelude.{ℕ, ◌+◌, if◌then◌else◌, List, [], ◌�
 use Rattle.std.specs.List.{concat}
 use Rattle.std.specs.Str.{bytes_eq}
 use Rattle.hex.specs.Hex.{encode_lower}
-use Rattle.uuid.specs.Text.{hyphenated_text, lower}
 use Rattle.lsmt_header.specs.declared.head.Head.{Head}
 use Rattle.lsmt_header.specs.Blocks.{nil}
-
--- a uuid in lower case with hyphens
-abbrev pub uuid_text : List ℕ → List ℕ
-uuid_text uuid = hyphenated_text lower uuid
+use Rattle.layer_commands.specs.Texts.{uuid_text}
 
 abbrev pub parent_text : List ℕ → List ℕ
 parent_text parent = if bytes_eq parent nil then codes "none" else uuid_text parent

@@ -1,5 +1,6 @@
 -- What a refusal prints, and the status with which it ends.
 use Rattle.std.specs.Prelude.{ℕ, List, ◌++◌, codes, decimal}
+use Rattle.uuid.specs.Text.{hyphenated_text, lower}
 use Rattle.lsmt_header.specs.declared.head.HeadFault.{HeadFault}
 use Rattle.lsmt_header.specs.declared.head.HeadFault.TheVariants.{BadMagic, BadVersion, Compressed, BadFlags, BadSize, NilUuid, BadTag, Unclean}
 use Rattle.layer_stack.specs.declared.fault.StackFault.{StackFault}
@@ -7,7 +8,11 @@ use Rattle.layer_stack.specs.declared.fault.StackFault.TheVariants as stack
 use Rattle.sealed_layer.specs.declared.fault.LayerFault.{LayerFault}
 use Rattle.sealed_layer.specs.declared.fault.LayerFault.TheVariants as file
 use Rattle.layer_commands.specs.declared.refusal.Refusal.{Refusal}
-use Rattle.layer_commands.specs.declared.refusal.Refusal.TheVariants.{Usage, SourceFault, SinkFault, ShelfFault, Memory, TooLong, NoLayer, Layer, Stack, DiskFault, NoSize, OtherSize, ImageExists, NotWholeSectors, OutOfRange, Full}
+use Rattle.layer_commands.specs.declared.refusal.Refusal.TheVariants.{Usage, SourceFault, SinkFault, ShelfFault, Memory, TooLong, NoLayer, Layer, Stack, DiskFault, NoSize, OtherSize, ImageExists, NotWholeSectors, OutOfRange, Full, Busy, NotLarger}
+
+-- a uuid in lower case with hyphens
+abbrev pub uuid_text : List ℕ → List ℕ
+uuid_text uuid = hyphenated_text lower uuid
 
 abbrev pub head_text : HeadFault → List ℕ
 head_text BadMagic = codes "bad magic"
@@ -57,6 +62,8 @@ text_of ImageExists = codes "image exists"
 text_of NotWholeSectors = codes "not whole sectors"
 text_of OutOfRange = codes "out of range"
 text_of (Full rows sectors) = codes "full " ++ (decimal rows ++ (codes " " ++ decimal sectors))
+text_of (Busy uuid) = codes "busy " ++ uuid_text uuid
+text_of (NotLarger sectors) = codes "not larger " ++ decimal sectors
 
 abbrev pub code_of : Refusal → ℕ
 code_of Usage = 2
@@ -75,6 +82,8 @@ code_of ImageExists = 6
 code_of NotWholeSectors = 6
 code_of OutOfRange = 6
 code_of (Full rows sectors) = 6
+code_of (Busy uuid) = 6
+code_of (NotLarger sectors) = 6
 
 -- the line that a refusal with that text prints
 abbrev pub line_of : List ℕ → List ℕ

@@ -18,7 +18,7 @@ mod texts;
 
 pub use commands::{flatten_shelf, print_head, print_stack, stack_sectors, write_text};
 pub use flattening::write_flat;
-pub use line::{Line, push_number, push_numbered, push_pair, push_parted};
+pub use line::{Line, push_named, push_number, push_numbered, push_pair, push_parted};
 pub use one_layer::flatten_source;
 pub use reading::{MOST_LAYER, read_input};
 pub use refusal::Refusal;

@@ -1,9 +1,11 @@
 //! A line of text in a buffer of a fixed size, so that it needs no memory.
 ghost use Rattle.std.specs.Prelude.{◌≡◌, ◌+◌, ◌≤◌, ◌++◌, decimal, length};
 ghost use Rattle.arrayvec.specs.ArrayString.{array_string_len};
+ghost use Rattle.layer_commands.specs.Texts.{uuid_text};
 
 use arrayvec::ArrayString;
 use itoa::Buffer;
+use uuid::Uuid;
 
 /// A line of at most 128 bytes.
 pub type Line = ArrayString<128>;
@@ -49,4 +51,19 @@ pub fn push_pair(line: &mut Line, text: &str, first: u64, between: &str, second:
 {
     push_numbered(line, text, first);
     push_numbered(line, between, second);
+}
+
+/// Puts a text and a uuid, in lower case with hyphens, behind the line's bytes.
+pub fn push_named(line: &mut Line, text: &str, uuid: [u8; 16])
+    requires { array_string_len line.old + length text.now + 36 ≤ 128 }
+    ensures text { line.new.bytes ≡ line.old.bytes ++ (text.now ++ uuid_text uuid) }
+    ensures room { array_string_len line.new ≤ array_string_len line.old + (length text.now + 36) }
+{
+    let mut buffer = Uuid::encode_buffer();
+    line.push_str(text);
+    line.push_str(
+        Uuid::from_bytes(uuid)
+            .hyphenated()
+            .encode_lower(&mut buffer),
+    );
 }

@@ -41,6 +41,10 @@ pub enum Refusal {
     OutOfRange,
     /// The top has so many rows and sectors of data, and no room for more.
     Full { rows: u64, sectors: u64 },
+    /// The commit of this uuid is in progress.
+    Busy([u8; 16]),
+    /// The image has so many sectors, and no more were asked for.
+    NotLarger(u64),
 }
 
 impl From<AllocError> for Refusal {
@@ -81,7 +85,9 @@ impl Refusal {
             | Refusal::ImageExists
             | Refusal::NotWholeSectors
             | Refusal::OutOfRange
-            | Refusal::Full { .. } => 6,
+            | Refusal::Full { .. }
+            | Refusal::Busy(_)
+            | Refusal::NotLarger(_) => 6,
         }
     }
 }

@@ -51,6 +51,12 @@ fn refusals_have_their_lines(rt: HostRuntime) -> Result<(), Fail> {
             6,
             "full 4194304 5",
         ),
+        (
+            Refusal::Busy([0x2A; 16]),
+            6,
+            "busy 2a2a2a2a-2a2a-2a2a-2a2a-2a2a2a2a2a2a",
+        ),
+        (Refusal::NotLarger(6), 6, "not larger 6"),
     ];
     for (refusal, code, text) in cases {
         let mut line = Line::new();

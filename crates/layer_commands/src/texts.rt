@@ -3,7 +3,7 @@ ghost use Rattle.std.specs.Prelude.{◌≡◌, ◌+◌, ◌≤◌, ◌++◌, len
 ghost use Rattle.arrayvec.specs.ArrayString.{array_string_len};
 ghost use Rattle.layer_commands.specs.Texts.{head_text, layer_text, stack_text, text_of};
 
-use crate::line::{Line, push_numbered, push_pair, push_parted};
+use crate::line::{Line, push_named, push_numbered, push_pair, push_parted};
 use crate::refusal::Refusal;
 use layer_stack::StackFault;
 use lsmt_header::HeadFault;
@@ -91,5 +91,7 @@ pub fn push_refusal(line: &mut Line, refusal: Refusal)
         Refusal::ImageExists => line.push_str("image exists"),
         Refusal::OutOfRange => line.push_str("out of range"),
         Refusal::Full { rows, sectors } => push_pair(line, "full ", rows, " ", sectors),
+        Refusal::Busy(uuid) => push_named(line, "busy ", uuid),
+        Refusal::NotLarger(sectors) => push_numbered(line, "not larger ", sectors),
     }
 }

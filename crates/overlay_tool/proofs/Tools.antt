@@ -103,7 +103,7 @@ clear-fails (Zero at count) before now disk disk_now refusal counted clear cause
 clear-fails (Flatten stdin) before now disk disk_now refusal counted clear cause = absurd clear.ready
 clear-fails (Info number) before now disk disk_now refusal counted clear cause = absurd clear.ready
 clear-fails Stack before now disk disk_now refusal counted clear cause = absurd clear.ready
-clear-fails (Grow sectors) before now disk disk_now refusal counted clear cause = absurd clear.ready
+clear-fails (Grow sectors) before now disk disk_now refusal counted clear cause = clear-command (Grow sectors) before now disk disk_now refusal counted clear cause
 clear-fails (Commit uuid) before now disk disk_now refusal counted clear cause = absurd clear.ready
 clear-fails Sweep before now disk disk_now refusal counted clear cause = absurd clear.ready
 clear-fails (Make seed acts) before now disk disk_now refusal counted clear cause = absurd clear.ready

@@ -72,7 +72,7 @@ fn expect<D: Disk + Drop>(
 }
 
 #[test]
-fn an_image_is_made_once(rt: HostRuntime) -> Result<(), Fail> {
+fn an_image_is_made_once_and_grows(rt: HostRuntime) -> Result<(), Fail> {
     let alloc = rt.alloc();
     let disk = MemDisk::new(alloc);
     let disk = expect(
@@ -93,7 +93,13 @@ fn an_image_is_made_once(rt: HostRuntime) -> Result<(), Fail> {
     let disk = expect(&rt, alloc, disk, &["write", "7"], 6, past)?;
     let disk = expect(&rt, alloc, disk, &["write", "3"], 0, b"wrote 3 2\n")?;
     let disk = expect(&rt, alloc, disk, &["zero", "4", "1"], 0, b"zeroed 4 1\n")?;
-    let _disk = expect(&rt, alloc, disk, &["read", "3", "1"], 0, &[0x41; 512])?;
+    let disk = expect(&rt, alloc, disk, &["read", "3", "1"], 0, &[0x41; 512])?;
+    let disk = expect(&rt, alloc, disk, &["grow", "16"], 0, b"grown 16\n")?;
+    let last = b"wrote 14 2\n";
+    let disk = expect(&rt, alloc, disk, &["write", "14"], 0, last)?;
+    let disk = expect(&rt, alloc, disk, &["read", "15", "1"], 0, &[0x41; 512])?;
+    let larger = b"refused: not larger 16\n";
+    let _disk = expect(&rt, alloc, disk, &["grow", "16"], 6, larger)?;
     Ok(())
 }
 

@@ -1,6 +1,7 @@
 //! Layers of block images, and images over them: writes the flat image of one layer that is read from
 //! standard input, or of a stack of layers, prints what layers say of themselves, and makes, reads,
-//! writes and zeros the image of a disk over a stack of layers. A configuration names disk and layers.
+//! writes, zeros and grows the image of a disk over a stack of layers. A configuration names disk and
+//! layers.
 #![tactic(auto)]
 
 #[cfg(test)]

@@ -138,10 +138,10 @@ fn each_refusal_has_its_status_and_line(rt: HostRuntime) -> Result<(), Fail> {
     use Failing::{Nobody, Shelf, Sink, Source};
     use Lower::{Again, First, Larger, Second, Smaller};
     // words, length of the source, layers, whether there is an image of 8 sectors, who fails
-    let cases: [(&str, usize, &[Lower], bool, Failing, u8, &str); 32] = [
+    let cases: [(&str, usize, &[Lower], bool, Failing, u8, &str); 37] = [
         ("", 0, &[], false, Nobody, 2, "usage"),
         ("read 0 x", 0, &[], true, Nobody, 2, "usage"),
-        ("grow 16", 0, &[], true, Nobody, 2, "usage"),
+        ("grow 0", 0, &[], true, Nobody, 2, "usage"),
         ("sweep", 0, &[], true, Nobody, 2, "usage"),
         ("make 1 2", 0, &[], false, Nobody, 2, "usage"),
         ("export", 0, &[], true, Nobody, 2, "usage"),
@@ -227,6 +227,11 @@ fn each_refusal_has_its_status_and_line(rt: HostRuntime) -> Result<(), Fail> {
         ("write 8", 512, &[], true, Nobody, 6, "out of range"),
         ("zero 0 9", 0, &[], true, Nobody, 6, "out of range"),
         ("read 8 1", 0, &[], true, Nobody, 6, "out of range"),
+        ("grow 16", 0, &[], false, Nobody, 3, "no image"),
+        ("grow 16", 0, &[], true, Failing::Disk, 4, "disk fault"),
+        ("grow 16", 0, &[], true, Sink, 4, "sink fault"),
+        ("grow 8", 0, &[], true, Nobody, 6, "not larger 8"),
+        ("grow 7", 0, &[], true, Nobody, 6, "not larger 8"),
     ];
     for (words, input, lowers, made, failing, code, line) in cases {
         let disk = if made {
@@ -256,12 +261,33 @@ fn is_line(bytes: &[u8], refusal: &str) -> bool {
 fn each_fault_of_a_layer_is_told(rt: HostRuntime) -> Result<(), Fail> {
     let alloc = rt.alloc();
     // what is changed of L1, whose index is at 5120 and whose trailer is at 8192
-    let cases: [(&[(usize, u8)], &str); 17] = [
+    let cases: [(&[(usize, u8)], &str); 18] = [
         (&[(0, b'X')], "layer 0: bad magic"),
         (&[(8, 3)], "layer 0: bad version 3"),
         (&[(12, 15)], "layer 0: compressed"),
         (&[(12, 5)], "layer 0: bad flags 5"),
         (&[(32, 0)], "layer 0: bad size 0"),
+        (
+            &[
+                (40, 0),
+                (41, 0),
+                (42, 0),
+                (43, 0),
+                (44, 0),
+                (45, 0),
+                (46, 0),
+                (47, 0),
+                (48, 0),
+                (49, 0),
+                (50, 0),
+                (51, 0),
+                (52, 0),
+                (53, 0),
+                (54, 0),
+                (55, 0),
+            ],
+            "layer 0: nil uuid",
+        ),
         (&[(72, 0xFF)], "layer 0: bad tag"),
         (&[(331, 1)], "layer 0: unclean 331"),
         (&[(8300, 1)], "layer 0: trailer differs"),
@@ -311,8 +337,9 @@ fn each_fault_of_a_layer_is_told(rt: HostRuntime) -> Result<(), Fail> {
 #[test]
 fn each_fault_of_an_image_is_told(rt: HostRuntime) -> Result<(), Fail> {
     let alloc = rt.alloc();
-    // what is written into the manifest (0), the data (1), the index (2) or the mark (3) of the image
-    let cases: [(u32, u64, &[u8], &str); 20] = [
+    // what is written into the manifest (0), the data (1), the index (2) or the mark (3) of the image, or
+    // where a file is cut off
+    let cases: [(u32, u64, &[u8], &str); 21] = [
         (0, 0, &[0], "no image"),
         (
             0,
@@ -324,6 +351,7 @@ fn each_fault_of_an_image_is_told(rt: HostRuntime) -> Result<(), Fail> {
         (0, 24, &[1], "manifest bad"),
         (0, 56, &[1], "manifest bad"),
         (0, 48, &[7], "top 0: head size 8"),
+        (1, 4095, &[], "top 0: head short"),
         (1, 0, &[b'X'], "top 0: data bad magic"),
         (1, 8, &[3], "top 0: data bad version 3"),
         (2, 0, &[b'X'], "top 0: index bad magic"),
@@ -347,7 +375,11 @@ fn each_fault_of_an_image_is_told(rt: HostRuntime) -> Result<(), Fail> {
     for (file, at, bytes, line) in cases {
         let mut disk = image_of_8(&rt, alloc)?;
         assert!(rt; at < 8192 && bytes.len() < 8192);
-        let _ = disk.write_at(file, at, bytes);
+        if bytes.is_empty() {
+            let _ = disk.cut(file, at);
+        } else {
+            let _ = disk.write_at(file, at, bytes);
+        }
         let none = Vec::new(alloc);
         let (status, note, _) = answer(
             &rt,

@@ -13,7 +13,8 @@ ghost use Rattle.overlay_tool.specs.Runs.{IsRun, RunFails, RunSucceeds, Succeeds
 use block_disk::Disk;
 use byte_ports::{Sink, Source};
 use image_commands::{
-    ImageRefusal, as_command, create_image, push_image_refusal, read_image, write_image, zero_image,
+    ImageRefusal, as_command, create_image, grow_image, push_image_refusal, read_image,
+    write_image, zero_image,
 };
 use layer_commands::{Line, Refusal, run_layers};
 use layer_shelf::Shelf;
@@ -54,6 +55,7 @@ fn run_command<A: Source, B: Sink, D: Disk, S: Shelf>(
 {
     match command {
         Command::Create(asked) => create_image(alloc, asked, shelf, disk, out),
+        Command::Grow(sectors) => grow_image(alloc, sectors, shelf, disk, out),
         Command::Read { at, count } => read_image(alloc, at, count, shelf, disk, out),
         Command::Write { at } => write_image(alloc, at, source, shelf, disk, out),
         Command::Zero { at, count } => zero_image(alloc, at, count, shelf, disk, out),
@@ -61,11 +63,8 @@ fn run_command<A: Source, B: Sink, D: Disk, S: Shelf>(
             let answer = run_layers(alloc, command, source, out, shelf);
             (as_command(answer), disk)
         }
-        Command::Grow(_)
-        | Command::Commit(_)
-        | Command::Sweep
-        | Command::Make { .. }
-        | Command::Export { .. } => unreachable!(),
+        Command::Commit(_) | Command::Sweep | Command::Make { .. } | Command::Export { .. } =>
+            unreachable!(),
     }
 }
 
@@ -77,15 +76,13 @@ fn read_command(alloc: Global, words: &WordList) -> Result<Command, Refusal>
 {
     match read_words(alloc, words) {
         Ok(command) => match command {
-            Command::Grow(_)
-            | Command::Commit(_)
-            | Command::Sweep
-            | Command::Make { .. }
-            | Command::Export { .. } => Err(Refusal::Usage),
+            Command::Commit(_) | Command::Sweep | Command::Make { .. } | Command::Export { .. } =>
+                Err(Refusal::Usage),
             Command::Flatten { .. }
             | Command::Info(_)
             | Command::Stack
             | Command::Create(_)
+            | Command::Grow(_)
             | Command::Read { .. }
             | Command::Write { .. }
             | Command::Zero { .. } => Ok(command),

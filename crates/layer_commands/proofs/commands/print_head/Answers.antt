@@ -1,8 +1,11 @@
-use Rattle.std.proofs.Common.{◌∙◌, ◌<◌, ap, arith}
+use Rattle.std.proofs.Common.{◌∙◌, ◌<◌, ap, arith, inl}
+use Rattle.std.specs.Prelude.{None}
+use Rattle.std.proofs.KnownBytes.{Keeps-refl}
 use Rattle.std.proofs.lemmas.Result.{err_from_is_err_and, on_ok_weaker}
 use Rattle.tool_setup.specs.declared.command.Command.TheVariants.{Info}
 use Rattle.layer_commands.specs.Reports.{info_lines}
 use Rattle.layer_commands.specs.Ports.{shelf_ports}
+use Rattle.layer_commands.proofs.AllPorts.{none_taken}
 use Rattle.layer_commands.proofs.ShelfCommands.{info_done, info_front, info_refused, sink_refused}
 use Rattle.layer_commands.proofs.commands.print_head.Goals as goal
 
@@ -41,3 +44,8 @@ returns-in_err-layer-clause-refused g c =
     rw (p.1, p.2) (info_refused (g.S.Shelf.files c.args.shelf.now) (g.S.Shelf.files c.read_one.new.shelf) k (g.S.Shelf.count c.args.shelf.now) (g.S.Shelf.count c.read_one.new.shelf)
     (g.S.Shelf.faults c.args.shelf.now) (g.S.Shelf.faults c.read_one.new.shelf) (g.B.Sink.written c.args.out.now) (g.B.Sink.faults c.args.out.now) (g.B.Sink.faults c.args.out.now)
     (g.met.S.Shelf.counted c.args.shelf.now) within c.in_err-layer.field-0.0 c.in_err-layer.ensures.refused)
+
+pub returns-in_err-text-clause-refused : goal.returns-in_err-text-clause-refused
+returns-in_err-text-clause-refused g c =
+    let p = err_from_is_err_and c.from_residual-in_err-text.result c.from_residual-in_err-text.ensures.1 in
+    rw (p.1, p.2) (none_taken None, inl (Keeps-refl (g.B.Sink.written c.args.out.now)))

@@ -1,5 +1,5 @@
 use Rattle.std.proofs.Common.{◌≡◌, ℕ, refl}
-use Rattle.tool_setup.specs.declared.command.Command.TheVariants.{Create, Read, Zero}
+use Rattle.tool_setup.specs.declared.command.Command.TheVariants.{Create, Grow, Read, Zero}
 use Rattle.layer_commands.specs.Ports.{Ports, ports_of}
 use Rattle.layer_commands.proofs.Charged.{charges_at, stays}
 use Rattle.image_commands.proofs.Answered.{unfed}
@@ -70,4 +70,26 @@ returns-in-Zero-clause-charged g c =
         shelf = charges_at g.S.Shelf.faults c.args.shelf.now c.zero_image.new.shelf (λ (p : Ports). p.shelf_faults) before now _ refl refl c.zero_image.ensures.shelf_cause;
       };
       disk_cause = charges_at g.D.Disk.faults c.args.disk c.zero_image.result.1 (λ (n : ℕ). n) (g.D.Disk.faults c.args.disk) (g.D.Disk.faults c.zero_image.result.1) _ refl refl c.zero_image.ensures.disk_cause;
+    }
+
+pub returns-in-Grow-clause-refused : goal.returns-in-Grow-clause-refused
+returns-in-Grow-clause-refused g c =
+    rw c.in-Grow.is (c.grow_image.ensures.refused (g.A.Source.left c.args.source.now) (g.A.Source.left c.args.source.now) (g.A.Source.faults c.args.source.now) (g.A.Source.faults c.args.source.now))
+
+pub returns-in-Grow-clause-charged : goal.returns-in-Grow-clause-charged
+returns-in-Grow-clause-charged g c =
+    let before : Ports = ports_of g.A.Source g.B.Sink g.S.Shelf c.args.source.now c.args.out.now c.args.shelf.now in
+    let now : Ports = ports_of g.A.Source g.B.Sink g.S.Shelf c.args.source.now c.grow_image.new.out c.grow_image.new.shelf in
+    let disk : DiskPort = disk_port g.D.Disk c.args.disk in
+    let disk_now : DiskPort = disk_port g.D.Disk c.grow_image.result.1 in
+    let left = g.A.Source.left c.args.source.now in
+    let count = g.A.Source.faults c.args.source.now in
+    record {
+      ports = record {
+        source = stays (λ (p : Ports). p.source_faults) before now _ refl
+            (unfed (Grow c.in-Grow.sectors) before now disk disk_now c.grow_image.result.0 refl (c.grow_image.ensures.refused left left count count));
+        sink = charges_at g.B.Sink.faults c.args.out.now c.grow_image.new.out (λ (p : Ports). p.sink_faults) before now _ refl refl c.grow_image.ensures.sink_cause;
+        shelf = charges_at g.S.Shelf.faults c.args.shelf.now c.grow_image.new.shelf (λ (p : Ports). p.shelf_faults) before now _ refl refl c.grow_image.ensures.shelf_cause;
+      };
+      disk_cause = charges_at g.D.Disk.faults c.args.disk c.grow_image.result.1 (λ (n : ℕ). n) (g.D.Disk.faults c.args.disk) (g.D.Disk.faults c.grow_image.result.1) _ refl refl c.grow_image.ensures.disk_cause;
     }
