@@ -7,8 +7,6 @@ mod examples;
 mod history;
 mod key;
 mod shared;
-#[cfg(test)]
-mod tests;
 
 pub use cache::Cache;
 pub use examples::{last_used_first_law, two_in_turn_law};

@@ -6,14 +6,10 @@ mod disk;
 mod files;
 mod folder_calls;
 mod folder_disk;
-#[cfg(test)]
-mod folder_tests;
 mod history;
 mod mem_disk;
 mod open_files;
 mod plan;
-#[cfg(test)]
-mod tests;
 
 pub use crash::CrashChoice;
 pub use disk::{Disk, DiskFailed};

@@ -7,6 +7,3 @@ mod writer;
 
 pub use reader::FieldReader;
 pub use writer::FieldWriter;
-
-#[cfg(test)]
-mod tests;

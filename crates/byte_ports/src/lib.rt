@@ -11,6 +11,3 @@ pub use in_memory::{MemSink, MemSource};
 pub use over_std::{StdSink, StdSource};
 pub use ports::{PortFailed, Sink, Source};
 pub use reading::read_full;
-
-#[cfg(test)]
-mod tests;

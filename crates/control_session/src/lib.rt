@@ -19,8 +19,4 @@ pub use laws::control_laws;
 pub use line::{Call, Line};
 pub use plain_control::PlainControl;
 pub use session::serve_control;
-
-#[cfg(test)]
-mod examples;
-#[cfg(test)]
-mod tests;
+pub use text::{Text, commit_text, status_text, warm_text};

@@ -9,7 +9,7 @@ use itoa::Buffer;
 use uuid::Uuid;
 
 /// A line to be sent, with its LF.
-pub(crate) type Text = ArrayString<256>;
+pub type Text = ArrayString<256>;
 
 /// A line that is always the same.
 pub(crate) fn fixed(words: &str) -> Text
@@ -59,7 +59,7 @@ fn named(words: &str, uuid: [u8; 16]) -> Text
 }
 
 /// The line on a commit.
-pub(crate) fn commit_text(uuid: [u8; 16], answer: CommitAnswer) -> Text
+pub fn commit_text(uuid: [u8; 16], answer: CommitAnswer) -> Text
     ensures { result.bytes ≡ commit_reply uuid answer }
 {
     match answer {
@@ -85,7 +85,7 @@ fn warmed(layer: u32, blocks: u64) -> Text
 }
 
 /// The line on the warming of a layer.
-pub(crate) fn warm_text(layer: u32, answer: WarmAnswer) -> Text
+pub fn warm_text(layer: u32, answer: WarmAnswer) -> Text
     ensures { result.bytes ≡ warm_reply layer answer }
 {
     match answer {
@@ -108,7 +108,7 @@ fn push_pending(text: &mut Text, pending: Option<[u8; 16]>)
 }
 
 /// The line on how the image stands.
-pub(crate) fn status_text(answer: StatusAnswer) -> Text
+pub fn status_text(answer: StatusAnswer) -> Text
     ensures { result.bytes ≡ status_reply answer }
 {
     match answer {

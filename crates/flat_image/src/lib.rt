@@ -19,8 +19,3 @@ pub use limits::{HISTORY_ENTRIES, TOP_ROWS, TOP_SECTORS};
 pub use plain_port::PlainPort;
 pub use port_fault::PortFault;
 pub use stands::{Entry, Named, Stands};
-
-#[cfg(test)]
-mod examples;
-#[cfg(test)]
-mod tests;

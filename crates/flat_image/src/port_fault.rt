@@ -35,14 +35,3 @@ impl From<sector_extent::Memory> for PortFault {
         PortFault::Memory
     }
 }
-
-#[cfg(test)]
-mod tests {
-    use super::*;
-
-    #[test]
-    fn want_of_memory_is_its_own_fault(rt: HostRuntime) {
-        assert_eq!(rt; PortFault::from(AllocError), PortFault::Memory);
-        assert_eq!(rt; PortFault::from(sector_extent::Memory), PortFault::Memory);
-    }
-}

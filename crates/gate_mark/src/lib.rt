@@ -4,8 +4,6 @@
 mod mark;
 mod sets;
 mod slots;
-#[cfg(test)]
-mod tests;
 mod through;
 
 pub use mark::{Mark, MarkFault, Rest, Slot};

@@ -8,3 +8,4 @@ pub mod Answering
 pub mod Fetches
 pub mod RangeReply
 pub mod Served
+pub mod OneAnswer

@@ -20,14 +20,9 @@ mod values;
 
 pub use fetcher::Fetcher;
 pub use in_memory::MemLink;
-pub use laws::range_reply_law;
+pub use laws::{range_reply_law, reply_law};
 pub use links::{Link, LinkFailed};
 pub use reason::{FetchFault, ReplyReason};
 pub use request::ask_bytes;
 pub use target::{HostText, PathText, Target};
-pub use tcp::TcpLink;
-
-#[cfg(test)]
-mod reply_tests;
-#[cfg(test)]
-mod tests;
+pub use tcp::{TcpLink, host_address, names_port};

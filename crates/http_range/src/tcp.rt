@@ -99,18 +99,18 @@ fn put_at(block: &mut [u8], at: usize, bytes: &[u8])
 }
 
 fn connect<R: Net<Stream = TcpStream>>(rt: &R, host: &[u8]) -> Result<TcpStream, LinkFailed> {
-    let Ok(text) = str::from_utf8(bare(host)) else {
+    let Ok(text) = str::from_utf8(host_address(host)) else {
         return Err(LinkFailed);
     };
-    if has_port(host) {
+    if names_port(host) {
         connect_to(rt, text)
     } else {
         connect_to(rt, (text, PORT))
     }
 }
 
-// The address alone, of an IPv6 address in brackets that no port follows.
-pub(crate) fn bare(host: &[u8]) -> &[u8] {
+/// The address alone, of an IPv6 address in brackets that no port follows; any other host as it is.
+pub fn host_address(host: &[u8]) -> &[u8] {
     match host.strip_prefix(b"[".as_slice()) {
         Some(rest) => match rest.strip_suffix(b"]".as_slice()) {
             Some(address) => address,
@@ -120,8 +120,8 @@ pub(crate) fn bare(host: &[u8]) -> &[u8] {
     }
 }
 
-// Whether a colon stands behind the last bracket.
-pub(crate) fn has_port(host: &[u8]) -> bool {
+/// Whether a host names a port: a colon stands behind the last bracket.
+pub fn names_port(host: &[u8]) -> bool {
     for byte in host.iter().rev() {
         if *byte == b']' {
             return false;

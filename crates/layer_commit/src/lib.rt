@@ -9,6 +9,3 @@ mod sealing;
 mod source;
 
 pub use sealing::Sealing;
-
-#[cfg(test)]
-mod tests;

@@ -11,6 +11,3 @@ pub use held::{Gate, HeldShelf};
 pub use in_folder::{FolderShelf, PathList, PathText};
 pub use in_memory::MemShelf;
 pub use shelves::{Shelf, ShelfFailed};
-
-#[cfg(test)]
-mod tests;

@@ -7,6 +7,3 @@ mod fault;
 
 pub use checking::check;
 pub use fault::StackFault;
-
-#[cfg(test)]
-mod tests;

@@ -11,6 +11,3 @@ mod zeros;
 pub use block::{block_at_the_end, decode_block, encode_block, one_block};
 pub use head::{Head, HeadFault, Kind};
 pub use tag::Tag;
-
-#[cfg(test)]
-mod tests;

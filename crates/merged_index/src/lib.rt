@@ -13,8 +13,3 @@ mod segments;
 pub use index::{MergedIndex, merge};
 pub use laws::index_laws;
 pub use piece::{Piece, PieceWhat};
-
-#[cfg(test)]
-mod plain;
-#[cfg(test)]
-mod tests;

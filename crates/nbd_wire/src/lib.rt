@@ -13,6 +13,3 @@ pub use hello::{Hello, decode_hello, hello_bytes};
 pub use info::{decode_info, info_block_size, info_export};
 pub use options::{OptionHead, decode_option, name_reply, option_reply};
 pub use request::{Request, decode_request, simple_reply};
-
-#[cfg(test)]
-mod tests;

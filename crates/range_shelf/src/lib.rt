@@ -4,12 +4,6 @@
 
 mod by_ranges;
 mod cached_shelf;
-#[cfg(test)]
-mod cached_tests;
-#[cfg(test)]
-mod range_tests;
-#[cfg(test)]
-mod speed_tests;
 
 pub use by_ranges::{RangeShelf, TargetList};
 pub use cached_shelf::CachedShelf;

@@ -22,6 +22,3 @@ pub use steps::Steps;
 
 /// Bytes of a sector.
 pub const SECTOR: usize = 512;
-
-#[cfg(test)]
-mod tests;

@@ -101,6 +101,3 @@ pub fn one_spelling()
     ensures rows { (bytes : List ℕ) (one other : Row) → RowOf bytes one → RowOf bytes other → one ≡ other }
     ensures spellings { (one other : List ℕ) (row : Row) → RowOf one row → RowOf other row → one ≡ other }
 {}
-
-#[cfg(test)]
-mod tests;

@@ -14,12 +14,3 @@ mod table;
 pub use plain::PlainTable;
 pub use segment::{Segment, What};
 pub use table::SegTable;
-
-#[cfg(test)]
-mod leaf_tests;
-#[cfg(test)]
-mod plain_tests;
-#[cfg(test)]
-mod speed_tests;
-#[cfg(test)]
-mod tests;

@@ -1,22 +1,15 @@
 // The connections of one lane, over TCP.
 ghost use Rattle.std.specs.Prelude.{None};
 
+use crate::accepting::{TRIES, accept_once};
 use crate::ahead::finish;
 use crate::stream::{TcpSink, TcpSource, over_stream};
 use lane_serve::{ListenFailed, Listener};
 use sector_extent::FaultCount;
 use std::alloc::Global;
-use std::io::{Error, ErrorKind};
 use std::marker::PhantomData;
 use std::net::TcpListener;
-use std::thread;
-use std::time::{Clock, Duration};
-
-// How often a connection that is gone, or a system that is short of something, is tried again.
-const TRIES: u32 = 1_000;
-
-// How long a system that is short of something is left alone, in milliseconds.
-const PAUSE: u64 = 10;
+use std::time::Clock;
 
 /// Connections at one address, for one lane. Lanes at the same address have handles of the same
 /// listener (`TcpListener::try_clone`). It tells its count of faults alone.
@@ -42,21 +35,12 @@ impl<'a, C: Clock, E> TcpLane<'a, C, E> {
 
     // A connection, or none where it was gone before it was taken, or the system is short of something.
     fn accept_once(&self) -> Result<Option<(TcpSource, TcpSink)>, ListenFailed> {
-        match self.listener.accept() {
-            Ok((stream, _)) => match over_stream(self.alloc, stream) {
-                Ok(ends) => Ok(Some(ends)),
-                Err(_) => Ok(None),
-            },
-            Err(error) => {
-                if is_gone(&error) {
-                    return Ok(None);
-                }
-                if !is_short(&error) {
-                    return Err(ListenFailed);
-                }
-                thread::sleep(self.clock, Duration::from_millis(PAUSE));
-                Ok(None)
-            }
+        let Some(stream) = accept_once(self.clock, &self.listener)? else {
+            return Ok(None);
+        };
+        match over_stream(self.alloc, stream) {
+            Ok(ends) => Ok(Some(ends)),
+            Err(_) => Ok(None),
         }
     }
 
@@ -68,19 +52,6 @@ impl<'a, C: Clock, E> TcpLane<'a, C, E> {
         }
         Err(ListenFailed)
     }
-}
-
-// The client went before its connection was taken, or a signal came.
-fn is_gone(error: &Error) -> bool {
-    matches!(
-        error.kind(),
-        ErrorKind::ConnectionAborted | ErrorKind::Interrupted
-    )
-}
-
-// No descriptor (EMFILE, ENFILE) or no memory (ENOMEM, ENOBUFS) is free at the moment.
-fn is_short(error: &Error) -> bool {
-    matches!(error.raw_os_error(), Some(12 | 23 | 24 | 105))
 }
 
 impl<'a, C: Clock, E: Drop> Listener for TcpLane<'a, C, E> {

@@ -8,8 +8,6 @@ mod configuration;
 mod fields;
 mod lowers;
 mod parsing;
-#[cfg(test)]
-mod tests;
 mod values;
 mod verb;
 mod words;

@@ -1,5 +1,0 @@
-use Rattle.control_session.proofs.ExampleFacts.{five_lines}
-use Rattle.control_session.proofs.examples.five_lines.Goals as goal
-
-pub returns : goal.returns
-returns c = five_lines

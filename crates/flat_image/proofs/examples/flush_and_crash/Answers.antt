@@ -1,5 +1,0 @@
-use Rattle.flat_image.proofs.ExampleFacts.{flush_and_crash}
-use Rattle.flat_image.proofs.examples.flush_and_crash.Goals as goal
-
-pub returns : goal.returns
-returns c = flush_and_crash

@@ -1,4 +1,0 @@
-use Rattle.merged_index.proofs.tests.index_cells.Given as goal
-
-abbrev pub ghosts-found_cells : goal.ghosts-found_cells
-ghosts-found_cells g a = record { name = a.blank.name; parts = a.blank.parts }

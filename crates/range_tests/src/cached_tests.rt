@@ -1,0 +1,124 @@
+//! Reads of a shelf in memory through a cache.
+ghost use Rattle.std.specs.Prelude.{◌≡◌, ◌+◌, ◌^◌, ◌<◌, ◌≤◌, ◌∷◌, [], Some, length, IfOk};
+ghost use Rattle.turn_lock.specs.Locks.{AreSeats};
+
+use block_cache::{Cache, CacheBase, SharedCache};
+use flat_image::Named;
+use layer_shelf::{MemShelf, Shelf, ShelfFailed};
+use range_shelf::*;
+use sector_extent::{Bytes, CallList, FileTexts};
+use std::alloc::Global;
+use std::marker::Brand;
+use std::sync::Wait;
+use std::test::Fail;
+use turn_lock::SeatList;
+
+// A cache for so many blocks of the shelf's files, with one seat.
+fn started_as<N: Named<CacheBase>>(
+    alloc: Global,
+    capacity: u32,
+    shelf: &MemShelf,
+) -> Result<(SharedCache, SeatList<Cache>), Fail>
+    requires capacity { (0 < capacity) × (capacity ≤ 16384) }
+    requires base { (N.it.capacity ≡ capacity) × (N.it.files ≡ Some shelf.now.files) }
+    ensures files { IfOk result (λ made. made.0.base.files ≡ Some shelf.now.files) }
+    ensures seats { IfOk result (λ made. (made.0.seats ≡ 1) × AreSeats made.0.id 1 made.1) }
+{
+    let _ = shelf;
+    let cache = Cache::new(alloc, capacity)?;
+    match SharedCache::start::<N>(alloc, cache, 1, 0) {
+        Ok(made) => Ok(made),
+        Err(_) => Err("memory")?,
+    }
+}
+
+fn started(
+    alloc: Global,
+    capacity: u32,
+    shelf: &MemShelf,
+) -> Result<(SharedCache, SeatList<Cache>), Fail>
+    requires capacity { (0 < capacity) × (capacity ≤ 16384) }
+    ensures files { IfOk result (λ made. made.0.base.files ≡ Some shelf.now.files) }
+    ensures seats { IfOk result (λ made. (made.0.seats ≡ 1) × AreSeats made.0.id 1 made.1) }
+{
+    started_as::<Brand>(alloc, capacity, shelf)
+}
+
+// A file of two blocks, whose bytes tell their blocks, and whose call with that number fails.
+fn two_blocks(alloc: Global, failing: u64) -> Result<MemShelf, Fail>
+    ensures { IfOk result (λ shelf. length shelf.files ≡ 1) }
+{
+    let mut file = vec![in alloc; 1; 65_536]?;
+    let second = vec![in alloc; 2; 65_536]?;
+    file.extend_from_slice(second.as_slice())?;
+    let mut files = Vec::new(alloc);
+    files.push(Bytes::from_vec(file))?;
+    let failing = CallList::from_vec(vec![in alloc; failing]?);
+    Ok(MemShelf::new(FileTexts::from_vec(files), failing))
+}
+
+// Reads of one byte at these places, and of the four bytes where the blocks meet.
+fn read_in_turn<S: Shelf>(shelf: &mut S) -> ([Result<(), ShelfFailed>; 5], [u8; 8])
+    requires { S.count shelf.old ≡ 1 }
+{
+    let mut out = [0; 8];
+    let whole = &mut out[..];
+    let (a, rest) = whole.split_at_mut(1);
+    let (b, rest) = rest.split_at_mut(1);
+    let (c, rest) = rest.split_at_mut(1);
+    let (d, both) = rest.split_at_mut(1);
+    let answers = [
+        shelf.read(0, 0, a),
+        shelf.read(0, 65_536, b),
+        shelf.read(0, 0, c),
+        shelf.read(0, 65_536, d),
+        shelf.read(0, 65_534, both),
+    ];
+    (answers, out)
+}
+
+// The reads through a cache for so many blocks, where the inner shelf's call with that number fails.
+fn cached<R: Wait>(
+    rt: &R,
+    alloc: Global,
+    capacity: u32,
+    failing: u64,
+) -> Result<([Result<(), ShelfFailed>; 5], [u8; 8]), Fail>
+    requires capacity { (0 < capacity) × (capacity ≤ 16384) }
+{
+    let shelf = two_blocks(alloc, failing)?;
+    let (cache, seats) = started(alloc, capacity, &shelf)?;
+    let Some(seat) = seats.into_vec().pop() else {
+        return Err("a seat")?;
+    };
+    match CachedShelf::new(rt, alloc, shelf, &cache, seat) {
+        Ok(mut shelf) => {
+            let answers = read_in_turn(&mut shelf);
+            let _ = shelf.into_parts();
+            Ok(answers)
+        }
+        Err(_) => Err("memory")?,
+    }
+}
+
+#[test]
+fn blocks_in_turn_hit_where_both_have_room(rt: HostRuntime) -> Result<(), Fail> {
+    let ok = Ok(());
+    let failed = Err(ShelfFailed);
+    // a miss makes two calls of the inner shelf: the length and the read
+    let table = [
+        (2, 9, [ok, ok, ok, ok, ok]),
+        (2, 4, [ok, ok, ok, ok, ok]),
+        (2, 2, [ok, failed, ok, ok, ok]),
+        (1, 4, [ok, ok, failed, ok, ok]),
+        (1, 6, [ok, ok, ok, failed, ok]),
+        (1, 7, [ok, ok, ok, failed, ok]),
+    ];
+    for (capacity, failing, answers) in table {
+        let (found, out) = cached(&rt, rt.alloc(), capacity, failing)?;
+        assert_eq!(rt; found, answers, "{capacity} blocks, call {failing}");
+        let [_, _, _, _, a, b, c, d] = out;
+        assert_eq!(rt; [a, b, c, d], [1, 1, 2, 2]);
+    }
+    Ok(())
+}
