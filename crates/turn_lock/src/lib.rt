@@ -7,8 +7,6 @@ mod kinds;
 mod rule;
 mod said;
 mod seat;
-#[cfg(test)]
-mod tests;
 mod turn;
 mod worn;
 

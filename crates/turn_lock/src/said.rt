@@ -20,6 +20,9 @@ impl<A> Model for Said<A> {
     ghost also_owns = { λ _. ftrue };
 }
 
+// It has no bytes, so there is nothing that a thread could share.
+unsafe impl<A> Send for Said<A> {}
+
 impl<A> Said<A> {
     /// The value that `N` names.
     pub fn of<N: Named<A>>() -> Said<A>
