@@ -20,7 +20,7 @@ pub enum Errno {
     Shutdown,
 }
 
-/// The number of an error.
+// The number of an error.
 pub(crate) fn errno_number(errno: Errno) -> u32
     ensures { result ≡ errno_number errno }
 {
@@ -34,7 +34,7 @@ pub(crate) fn errno_number(errno: Errno) -> u32
     }
 }
 
-/// What is answered where the port refuses.
+// What is answered where the port refuses.
 pub(crate) fn errno_of(fault: PortFault) -> Errno
     ensures { result ≡ errno_of fault }
 {

@@ -17,8 +17,8 @@ use nbd_wire::{Hello, OptionHead, decode_hello, decode_option, hello_bytes};
 // The most options that are answered.
 const MOST_OPTIONS: u32 = 64;
 
-/// Greets the client and answers its options, up to where it may send requests. The image has
-/// `sectors` sectors.
+// Greets the client and answers its options, up to where it may send requests. The image has
+// `sectors` sectors.
 pub(crate) fn shake_hands<A: Source, B: Sink>(
     export: &Export,
     sectors: u64,

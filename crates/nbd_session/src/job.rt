@@ -11,9 +11,9 @@ use nbd_wire::Request;
 /// behind it.
 #[derive(Clone, Copy, Debug, PartialEq, Eq)]
 pub enum Job {
-    Read(u64, u64),
-    Write(u64, u64, bool),
-    Zero(u64, u64, bool),
+    Read { at: u64, count: u64 },
+    Write { at: u64, count: u64, fua: bool },
+    Zero { at: u64, count: u64, fua: bool },
     Flush,
 }
 
@@ -29,10 +29,10 @@ const TRIM: u16 = 4;
 
 const WRITE_ZEROES: u16 = 6;
 
-/// The most bytes that a READ or a WRITE may have.
+// The most bytes that a READ or a WRITE may have.
 pub(crate) const MOST_BYTES: u32 = 33_554_432;
 
-/// How many bytes of data follow a request.
+// How many bytes of data follow a request.
 pub(crate) fn data_length(request: &Request) -> u32
     ensures { result ≡ data_length request.now }
 {
@@ -89,15 +89,15 @@ fn the_job(sectors: u64, request: &Request) -> Job
     let count = u64::from(request.length / 512);
     let fua = request.flags % 2 == 1;
     match request.command {
-        READ => Job::Read(at, count),
-        WRITE => Job::Write(at, count, fua),
+        READ => Job::Read { at, count },
+        WRITE => Job::Write { at, count, fua },
         FLUSH => Job::Flush,
-        _ => Job::Zero(at, count, fua),
+        _ => Job::Zero { at, count, fua },
     }
 }
 
-/// What a request other than DISC asks of the port of an image of so many sectors, or the error of
-/// the first check that it meets.
+// What a request other than DISC asks of the port of an image of so many sectors, or the error of
+// the first check that it meets.
 #[tactic(auto, unfolding(crate::specs::Jobs::job_of))]
 pub(crate) fn job_of(export: &Export, sectors: u64, request: &Request) -> Result<Job, Errno>
     requires { sectors ≤ 2 ^ 31 }

@@ -1,15 +1,15 @@
 //! Serves one connection of the NBD protocol over any port of an image.
 #![tactic(auto)]
 
-mod asking;
 mod buffers;
 mod errno;
 mod export;
 mod handshake;
 mod job;
-mod jobs;
 mod laws;
+mod one_request;
 mod option_answers;
+mod port_calls;
 mod reading;
 mod requests;
 mod sending;
@@ -22,10 +22,3 @@ pub use job::Job;
 pub use laws::session_laws;
 pub use served::Served;
 pub use session::serve_connection;
-
-#[cfg(test)]
-mod examples;
-#[cfg(test)]
-mod refusing_ports;
-#[cfg(test)]
-mod tests;

@@ -10,7 +10,7 @@ use crate::served::Served;
 use byte_ports::Sink;
 use nbd_wire::{Hello, decode_info, info_block_size, info_export, join, name_reply, option_reply};
 
-/// What comes after an option.
+// What comes after an option.
 #[derive(Clone, Copy, Debug, PartialEq, Eq)]
 pub(crate) enum Phase {
     /// Another option.
@@ -23,7 +23,7 @@ pub(crate) enum Phase {
     UnknownExport,
 }
 
-/// The most bytes of data of an option that are looked at.
+// The most bytes of data of an option that are looked at.
 pub(crate) const MOST_DATA: usize = 8192;
 
 const EXPORT_NAME: u32 = 1;
@@ -50,7 +50,7 @@ const UNKNOWN: u32 = 0x8000_0006;
 
 const TOO_BIG: u32 = 0x8000_0009;
 
-/// Answers an option whose data were read.
+// Answers an option whose data were read.
 #[tactic(auto, unfolding(crate::specs::Options::short_answer))]
 pub(crate) fn answer_short<B: Sink>(
     export: &Export,
@@ -96,7 +96,7 @@ pub(crate) fn answer_short<B: Sink>(
     }
 }
 
-/// Answers an option whose data were too long and are gone.
+// Answers an option whose data were too long and are gone.
 #[tactic(auto, unfolding(crate::specs::Options::long_answer))]
 pub(crate) fn answer_long<B: Sink>(option: u32, sink: &mut B) -> Result<Phase, Served>
     ensures { Says (long_answer option)

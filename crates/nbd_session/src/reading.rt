@@ -8,7 +8,7 @@ use crate::buffers::Buffers;
 use crate::served::Served;
 use byte_ports::{Source, read_full};
 
-/// Fills `out`, or stops at the end, and answers how many bytes were taken.
+// Fills `out`, or stops at the end, and answers how many bytes were taken.
 pub(crate) fn pull<A: Source>(source: &mut A, out: &mut [u8]) -> Result<usize, Served>
     ensures { MatchResult result
         (λ count. FillsTo (A.left source.old) (A.left source.new) out.new count
@@ -22,7 +22,7 @@ pub(crate) fn pull<A: Source>(source: &mut A, out: &mut [u8]) -> Result<usize, S
     }
 }
 
-/// Fills `out`.
+// Fills `out`.
 pub(crate) fn fill<A: Source>(source: &mut A, out: &mut [u8]) -> Result<(), Served>
     ensures { MatchResult result
         (λ _. Consumes (A.left source.old) (A.left source.new) out.new
@@ -40,7 +40,7 @@ pub(crate) fn fill<A: Source>(source: &mut A, out: &mut [u8]) -> Result<(), Serv
     }
 }
 
-/// Takes `size` bytes and drops them, a buffer of `out` at a time.
+// Takes `size` bytes and drops them, a buffer of `out` at a time.
 pub(crate) fn skip<A: Source>(source: &mut A, size: usize, out: &mut [u8]) -> Result<(), Served>
     requires { 0 < length out.old }
     ensures { MatchResult result
@@ -57,7 +57,7 @@ pub(crate) fn skip<A: Source>(source: &mut A, size: usize, out: &mut [u8]) -> Re
     Ok(())
 }
 
-/// Takes `size` bytes and drops them, by the largest buffer that there is.
+// Takes `size` bytes and drops them, by the largest buffer that there is.
 pub(crate) fn skip_data<A: Source>(
     source: &mut A,
     size: usize,

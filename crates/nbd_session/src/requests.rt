@@ -7,7 +7,7 @@ ghost use Rattle.nbd_session.specs.Sessions.{ends, Ended, GoesOn, IsIdle};
 use crate::buffers::Buffers;
 use crate::export::Export;
 use crate::job::{DISC, MOST_BYTES, data_length, job_of};
-use crate::jobs::{refuse_request, serve_job};
+use crate::one_request::{refuse_request, serve_job};
 use crate::reading::pull;
 use crate::served::Served;
 use byte_ports::{Sink, Source};
@@ -63,7 +63,7 @@ fn serve_request<A: Source, B: Sink, P: ImagePort>(
     }
 }
 
-/// Serves at most 2^62 requests, until the connection ends.
+// Serves at most 2^62 requests, until the connection ends.
 pub(crate) fn serve_requests<A: Source, B: Sink, P: ImagePort>(
     export: &Export,
     source: &mut A,

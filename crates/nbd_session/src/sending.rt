@@ -7,7 +7,7 @@ use crate::served::Served;
 use byte_ports::Sink;
 use nbd_wire::simple_reply;
 
-/// Sends all of `bytes`.
+// Sends all of `bytes`.
 pub(crate) fn send<B: Sink>(sink: &mut B, bytes: &[u8]) -> Result<(), Served>
     ensures { Sends (B.written sink.old) (B.written sink.new) (B.faults sink.old) (B.faults sink.new) bytes.now result }
 {
@@ -17,7 +17,7 @@ pub(crate) fn send<B: Sink>(sink: &mut B, bytes: &[u8]) -> Result<(), Served>
     }
 }
 
-/// Sends a reply that has no data.
+// Sends a reply that has no data.
 pub(crate) fn reply<B: Sink>(
     sink: &mut B,
     cookie: u64,

@@ -6,7 +6,7 @@ use Rattle.nbd_session.specs.Replies.{Good, Bad}
 use Rattle.nbd_session.specs.Sessions.{Sends}
 use Rattle.nbd_session.proofs.Charged.{charges_data}
 use Rattle.nbd_session.proofs.Replied.{job_replied, read-no_memory}
-use Rattle.nbd_session.proofs.jobs.serve_read.Goals as goal
+use Rattle.nbd_session.proofs.one_request.serve_read.Goals as goal
 
 pub returns-then-is_err : goal.returns-then-is_err
 returns-then-is_err g c = λ go left reads idle.

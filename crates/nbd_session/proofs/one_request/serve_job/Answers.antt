@@ -4,7 +4,7 @@ use Rattle.nbd_session.specs.declared.job.Job.TheVariants.{Zero, Flush}
 use Rattle.nbd_session.specs.Replies.{answer_of}
 use Rattle.nbd_session.specs.Jobs.{IsInside}
 use Rattle.nbd_session.proofs.Replied.{job_replied}
-use Rattle.nbd_session.proofs.jobs.serve_job.Goals as goal
+use Rattle.nbd_session.proofs.one_request.serve_job.Goals as goal
 
 pub returns-in-Read : goal.returns-in-Read
 returns-in-Read g c = λ go idle.

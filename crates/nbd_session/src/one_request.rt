@@ -5,10 +5,10 @@ ghost use Rattle.nbd_session.specs.Jobs.{IsInside};
 ghost use Rattle.nbd_session.specs.Talks.{Rest, with_job, with_refusal};
 ghost use Rattle.nbd_session.specs.Sessions.{ends, GoesOn, IsIdle};
 
-use crate::asking::{HEAD, flush_all, read_reply, write_sectors, zero_sectors};
 use crate::buffers::Buffers;
 use crate::errno::Errno;
 use crate::job::{Job, data_length};
+use crate::port_calls::{HEAD, flush_all, read_reply, write_sectors, zero_sectors};
 use crate::reading::{fill, skip_data};
 use crate::sending::{reply, send};
 use crate::served::Served;
@@ -16,7 +16,7 @@ use byte_ports::{Sink, Source};
 use flat_image::ImagePort;
 use nbd_wire::Request;
 
-/// Drops the data of a request, and refuses it.
+// Drops the data of a request, and refuses it.
 pub(crate) fn refuse_request<A: Source, B: Sink>(
     source: &mut A,
     sink: &mut B,
@@ -97,7 +97,7 @@ fn serve_write<A: Source, B: Sink, P: ImagePort>(
     reply(sink, request.cookie, answer)
 }
 
-/// Serves a request that met no check.
+// Serves a request that met no check.
 pub(crate) fn serve_job<A: Source, B: Sink, P: ImagePort>(
     source: &mut A,
     sink: &mut B,
@@ -114,12 +114,12 @@ pub(crate) fn serve_job<A: Source, B: Sink, P: ImagePort>(
         (P.state port.new)) result }
 {
     match job {
-        Job::Read(at, count) => serve_read(sink, port, buffers, request, at, count),
-        Job::Write(at, count, fua) => {
+        Job::Read { at, count } => serve_read(sink, port, buffers, request, at, count),
+        Job::Write { at, count, fua } => {
             let change = Change { at, count, fua };
             serve_write(source, sink, port, buffers, request, change)
         }
-        Job::Zero(at, count, fua) => {
+        Job::Zero { at, count, fua } => {
             let answer = zero_sectors(port, at, count, fua);
             reply(sink, request.cookie, answer)
         }

@@ -12,10 +12,10 @@ use crate::errno::{Errno, errno_of};
 use flat_image::ImagePort;
 use nbd_wire::simple_reply;
 
-/// The bytes of the head of a reply.
+// The bytes of the head of a reply.
 pub(crate) const HEAD: usize = 16;
 
-/// Reads `count` sectors into `out`, behind the head of the reply.
+// Reads `count` sectors into `out`, behind the head of the reply.
 pub(crate) fn read_reply<P: ImagePort>(
     port: &mut P,
     at: u64,
@@ -41,7 +41,7 @@ pub(crate) fn read_reply<P: ImagePort>(
     }
 }
 
-/// Writes the bytes from sector `at` on, and flushes where that is asked for.
+// Writes the bytes from sector `at` on, and flushes where that is asked for.
 pub(crate) fn write_sectors<P: ImagePort>(
     port: &mut P,
     at: u64,
@@ -59,7 +59,7 @@ pub(crate) fn write_sectors<P: ImagePort>(
     }
 }
 
-/// Makes `count` sectors from `at` on zero, and flushes where that is asked for.
+// Makes `count` sectors from `at` on zero, and flushes where that is asked for.
 pub(crate) fn zero_sectors<P: ImagePort>(
     port: &mut P,
     at: u64,
@@ -85,7 +85,7 @@ fn flush_behind<P: ImagePort>(port: &mut P, fua: bool) -> Result<(), Errno>
     if fua { flush_all(port) } else { Ok(()) }
 }
 
-/// Flushes.
+// Flushes.
 pub(crate) fn flush_all<P: ImagePort>(port: &mut P) -> Result<(), Errno>
     ensures does { Flushed P.flush_takes_memory (P.state port.old) (P.state port.new) (answer_of result) }
     ensures cause { ChargesAnswer (P.state port.old) (P.state port.new) (answer_of result) }

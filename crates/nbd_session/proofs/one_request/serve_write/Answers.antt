@@ -6,7 +6,7 @@ use Rattle.nbd_session.specs.declared.job.Job.TheVariants.{Write}
 use Rattle.nbd_session.specs.Replies.{Bad, answer_of}
 use Rattle.nbd_session.specs.Sessions.{IsCut}
 use Rattle.nbd_session.proofs.Replied.{job_replied, job_cut, write-no_memory}
-use Rattle.nbd_session.proofs.jobs.serve_write.Goals as goal
+use Rattle.nbd_session.proofs.one_request.serve_write.Goals as goal
 
 pub returns-in_err-skip_data : goal.returns-in_err-skip_data
 returns-in_err-skip_data g c = λ go idle.

@@ -2,7 +2,7 @@ use Rattle.std.proofs.Common.{◌∙◌, subst}
 use Rattle.std.proofs.lemmas.Result.{err_from_is_err_and}
 use Rattle.nbd_session.specs.Sessions.{IsCut}
 use Rattle.nbd_session.proofs.Replied.{refusal_replied, refusal_cut}
-use Rattle.nbd_session.proofs.jobs.refuse_request.Goals as goal
+use Rattle.nbd_session.proofs.one_request.refuse_request.Goals as goal
 
 pub returns-in_err-skip_data : goal.returns-in_err-skip_data
 returns-in_err-skip_data g c = λ takes go port idle.

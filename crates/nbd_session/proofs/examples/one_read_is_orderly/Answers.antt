@@ -1,5 +1,0 @@
-use Rattle.nbd_session.proofs.OrderlyFacts.{one_read_is_orderly}
-use Rattle.nbd_session.proofs.examples.one_read_is_orderly.Goals as goal
-
-pub returns : goal.returns
-returns c = one_read_is_orderly
