@@ -7,7 +7,7 @@ ghost use Rattle.top_writer.specs.Files.{data_file, index_file, HeadsAsked};
 ghost use Rattle.flat_image.specs.Left.{Stand};
 ghost use Rattle.top_writer.specs.Fitting.{IsFitted, IsFlushed, TopFits, TopGoes, ViewStored};
 ghost use Rattle.top_writer.specs.Stands.{unchanged, as_before, just_this, this_too};
-ghost use Rattle.top_writer.specs.View.{view_of, sequence_of};
+ghost use Rattle.top_writer.specs.View.{view_of, sequence_of, table_of};
 
 use crate::layout::{BLOCK, ROW, body_of, counts_of, data_number, index_number};
 use crate::top::Top;
@@ -27,6 +27,7 @@ impl Top {
             (TopGoes D.tells (D.state disk.old) (D.state disk.new) self.old self.new unchanged this_too) }
         ensures flushed { OnOk result (IsFlushed self.new) }
         ensures still { IsFlushed self.old → (disk.new ≡ disk.old) × (self.new ≡ self.old) }
+        ensures table { table_of self.new ≡ table_of self.old }
         ensures fitted { IsFitted D.tells (D.state disk.new) self.new }
         ensures cause { Charges D.faults disk.old disk.new (IsErr result) }
     {
@@ -58,6 +59,7 @@ impl Top {
             → TopFits D.tells (D.state disk.old) n asked self.old s may
             → ViewStored D.tells (D.state disk.new) n asked (view_of self.new) s may) }
         ensures mark { self.new.mark ≡ self.old.mark }
+        ensures table { self.new.table ≡ self.old.table }
         ensures cause { Charges D.faults disk.old disk.new (IsErr result) }
     {
         self.append_rows(disk)?;

@@ -21,8 +21,3 @@ pub use fault::{ReadFault, TopFault, TopMakeFault, TopReason, WriteFault};
 pub use laws::{call_laws, top_laws};
 pub use load_checks::is_size;
 pub use top::Top;
-
-#[cfg(test)]
-mod load_tests;
-#[cfg(test)]
-mod tests;
