@@ -24,7 +24,7 @@ layers-from None layers sound are = layers-blank layers sound
 layers-from (Some files) layers sound are = are
 
 -- what was loaded over the files that the layers are of was opened over the layers
-pub opened : (old : DiskState) (told : Option (List (List ℕ))) (layers : List LayerIndex) (x : Seen) → x.parts.lowers ≡ layers
+pub opened : (old : DiskState) (told : Option (List (List ℕ))) (layers : List LayerIndex) (x : Seen) → x.parts.stack.lowers ≡ layers
     → IsLoaded old (lowers_from told layers) x → IsOpened old told x
 opened old told layers x same loaded = record {
   base = loaded.base;
@@ -35,7 +35,5 @@ opened old told layers x same loaded = record {
     untold = λ no. loaded.untold no ∙ ap (λ l. blank_base (lowers_from told l) (parts_view x.parts) x.faults) (sym same);
   };
   unworn = loaded.unworn;
-  none_done = loaded.none_done;
-  none_frozen = loaded.none_frozen;
   stands = loaded.stands;
 }

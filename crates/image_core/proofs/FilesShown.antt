@@ -10,7 +10,7 @@ use Rattle.flat_image.specs.declared.act.Asked.{Asked}
 use Rattle.flat_image.specs.declared.act.Asked.TheVariants.{Nothing, Uuid, Sectors}
 use Rattle.flat_image.specs.declared.base.Base.{Base}
 use Rattle.flat_image.specs.Frozen.{Frozen}
-use Rattle.flat_image.specs.CanonicalFiles.{canonical_head, file_of}
+use Rattle.flat_image.specs.CanonicalFiles.{canonical_head}
 use Rattle.flat_image.specs.LayerReading.{uuid_in}
 use Rattle.flat_image.specs.Base.{pending_of, top_uuid, top_size, IsFrozen, IsBase, HasFewStretches}
 use Rattle.flat_image.specs.History.{step, sealed_over}
@@ -23,8 +23,9 @@ use Rattle.top_writer.specs.Stands.{with_grow}
 use Rattle.top_writer.proofs.GrowLaws.{shows_grown}
 use Rattle.image_core.specs.Numbers.{sealed_file, with_pending}
 use Rattle.image_core.specs.Manifest.{Names, format_said, exact_said}
-use Rattle.image_core.specs.Shows.{epoch_of, heads_asked, AreStack, ShowsStand, ShowsFrozen, AreSealed, Shows}
+use Rattle.image_core.specs.Shows.{epoch_of, heads_asked, AreStack, IsSound, ShowsStand, ShowsFrozen, AreSealed, Shows}
 use Rattle.image_core.specs.MayBe.{ShowsMayBe}
+use Rattle.image_core.specs.Parts.{sealed_by}
 use Rattle.image_core.specs.FileSets.{FreezeTried, SealTried, GrowTried, WasTried, FilesFit}
 use Rattle.image_core.proofs.Sizes.{stack-grown}
 use Rattle.image_core.proofs.StackMore.{stack-more}
@@ -89,46 +90,61 @@ sealed-more done file files are last k below = by_place (by_order k (length done
         let here : k ≡ length done = omega (arith, behind, below, length-append done (file ∷ [])) in
         ap (λ j. files (sealed_file j)) here ∙ (last ∙ (sym (get_or_at done file [] [] (length done) refl) ∙ ap (λ j. slice_index_or (done ++ file ∷ []) j []) (sym here)))
 
-shown-seal : (b : Base) (tops : List Stand) (attempts : List Asked) (files : Files) (uuid : List ℕ) → IsBase b → HasFewStretches b
-    → (fit : FilesFit b tops attempts files) → Contains attempts (Uuid uuid) → SealTried b uuid fit.body files → ShowsMayBe b tops attempts files
-shown-seal b tops attempts files uuid is few fit among tried =
-    let sound = fit.sound in
-    let exact : exact_said fit.body ≡ false = written-exact fit.body tried.names.format in
-    let f : Frozen = tried.frozen in
+-- the image with the layer that its frozen sheet becomes
+abbrev pub with_seal : Base → Frozen → Base
+with_seal b f = record b { done = b.done ++ sealed_by (b.lowers ++ b.done) f ∷ []; frozen = None }
+
+pub sealed-step : (b : Base) (f : Frozen) (uuid : List ℕ) → b.frozen ≡ Some f → with_seal b f ≡ step b (Seal uuid)
+sealed-step b f uuid is = ap (λ o. record b { done = b.done ++ sealed_over (b.lowers ++ b.done) o; frozen = None }) (sym is)
+
+pub sealed-sound : (b : Base) (f : Frozen) → b.frozen ≡ Some f → IsBase b → HasFewStretches b → IsSound false b → IsSound false (with_seal b f)
+sealed-sound b f frozen_is is few sound =
     let layers : List (List ℕ) = b.lowers ++ b.done in
     let below : ℕ = top_size (length f.sheet) layers in
-    let file : List ℕ = file_of f.uuid (top_uuid layers) below f.sheet in
+    let file : List ℕ = sealed_by layers f in
     let done : List (List ℕ) = b.done ++ file ∷ [] in
     let head : Head = canonical_head f.uuid (top_uuid layers) below f.sheet in
-    let frozen : IsFrozen b.sectors f = subst (λ o. IfSome o (IsFrozen b.sectors)) tried.is is.frozen_is in
-    let made : IsHeadOf file head = record { sheet = f.sheet; layer = becomes-layer b f tried.is is few } in
-    let pending : pending_of b.frozen ≡ Some f.uuid = ap pending_of tried.is in
+    let frozen : IsFrozen b.sectors f = subst (λ o. IfSome o (IsFrozen b.sectors)) frozen_is is.frozen_is in
+    let made : IsHeadOf file head = record { sheet = f.sheet; layer = becomes-layer b f frozen_is is few } in
+    let pending : pending_of b.frozen ≡ Some f.uuid = ap pending_of frozen_is in
     let own : Contains (map uuid_in layers) f.uuid → ⊥ = subst (λ p. IfSome p (λ u. Contains (map uuid_in layers) u → ⊥)) pending sound.unlike in
     let room : length b.lowers + length b.done + 1 ≤ 255 = subst (λ p. with_pending (length b.lowers + length b.done) p ≤ 255) pending sound.few in
     let count : length done ≡ length b.done + 1 = length-append b.done (file ∷ []) in
-    let before : AreStack false b.sectors layers = subst (λ e. AreStack e b.sectors layers) exact sound.stack in
-    let stack : AreStack (exact_said fit.body) b.sectors (b.lowers ++ done) =
-    subst (λ e. AreStack e b.sectors (b.lowers ++ done)) (sym exact)
-    (subst (AreStack false b.sectors) (append_assoc b.lowers b.done (file ∷ []))
-    (stack-more b.sectors (length f.sheet) layers file head before made (omega (arith, frozen.sheet_is.count)) (sealed-stands b f tried.is is) refl own
-    (omega (arith, room, length-append b.lowers b.done)))) in
-    let epoch : epoch_of b ≡ length done = ap (with_pending (length b.done)) pending ∙ sym count in
-    let c : Base = record (put_top b fit.top) { done = done; frozen = None } in
-    let found : c ≡ step (put_top b fit.top) (Seal uuid) = ap (λ o. record (put_top b fit.top) { done = b.done ++ sealed_over layers o; frozen = None }) (sym tried.is) in
+    record {
+      size = sound.size;
+      few = omega (arith, count, room);
+      stack = subst (AreStack false b.sectors) (append_assoc b.lowers b.done (file ∷ []))
+          (stack-more b.sectors (length f.sheet) layers file head sound.stack made (omega (arith, frozen.sheet_is.count)) (sealed-stands b f frozen_is is) refl own
+          (omega (arith, room, length-append b.lowers b.done)));
+      unlike = tt;
+    }
+
+pub sealed-epoch : (b : Base) (f : Frozen) → b.frozen ≡ Some f → epoch_of b ≡ length (with_seal b f).done
+sealed-epoch b f is = ap (with_pending (length b.done)) (ap pending_of is) ∙ sym (length-append b.done (sealed_by (b.lowers ++ b.done) f ∷ []))
+
+shown-seal : (b : Base) (tops : List Stand) (attempts : List Asked) (files : Files) (uuid : List ℕ) → IsBase b → HasFewStretches b
+    → (fit : FilesFit b tops attempts files) → Contains attempts (Uuid uuid) → SealTried b uuid fit.body files → ShowsMayBe b tops attempts files
+shown-seal b tops attempts files uuid is few fit among tried =
+    let exact : exact_said fit.body ≡ false = written-exact fit.body tried.names.format in
+    let f : Frozen = tried.frozen in
+    let file : List ℕ = sealed_by (b.lowers ++ b.done) f in
+    let count : length (b.done ++ file ∷ []) ≡ length b.done + 1 = length-append b.done (file ∷ []) in
+    let c : Base = with_seal (put_top b fit.top) f in
+    let sound : IsSound false (with_seal b f) = sealed-sound b f tried.is is few (subst (λ e. IsSound e b) exact fit.sound) in
     let shows : Shows files c = record {
       sequence = fit.sequence;
       body = fit.body;
       manifest = fit.manifest;
       names = subst (λ k. Names fit.body k None b.sectors) (sym count) tried.names.names;
-      sound = record { size = sound.size; few = omega (arith, count, room); stack = stack; unlike = tt };
+      sound = record { size = sound.size; few = sound.few; stack = subst (λ e. AreStack e b.sectors (b.lowers ++ (b.done ++ file ∷ []))) (sym exact) sound.stack; unlike = tt };
       done = sealed-more b.done file files fit.done tried.file;
       frozen = tt;
-      top = subst (λ k. ShowsStand (exact_said fit.body) k b.sectors b.lowers fit.top files) epoch fit.shows;
+      top = subst (λ k. ShowsStand (exact_said fit.body) k b.sectors b.lowers fit.top files) (sealed-epoch b f tried.is) fit.shows;
     } in
     record {
       found = c;
       shows = shows;
-      may_be = record { top = fit.top; among = fit.among; is = inr (Uuid uuid, among, inr (pending ∙ ap (λ (u : List ℕ). Some u) tried.same, found)) };
+      may_be = record { top = fit.top; among = fit.among; is = inr (Uuid uuid, among, inr (ap pending_of tried.is ∙ ap (λ (u : List ℕ). Some u) tried.same, sealed-step (put_top b fit.top) f uuid tried.is)) };
     }
 
 -- or a grow that was tried

@@ -79,7 +79,7 @@ sector-zeros n i below =
     ap (take 512) (drop-replicate {X = ℕ} (512 * i) (512 * n) 0)
     ∙ take-replicate {X = ℕ} 512 (512 * n - 512 * i) 0 (omega (arith, below))
 
-sector-part : (file : List ℕ) (place n i : ℕ) → i < n → take 512 (drop (512 * i) (take (512 * n) (drop (512 * place) file))) ≡ sector_at file (place + i)
+pub sector-part : (file : List ℕ) (place n i : ℕ) → i < n → take 512 (drop (512 * i) (take (512 * n) (drop (512 * place) file))) ≡ sector_at file (place + i)
 sector-part file place n i below =
     let rest : ℕ = 512 * n - 512 * i in
     let parts : 512 * n ≡ 512 * i + rest = omega (arith, below) in
@@ -94,13 +94,10 @@ piece-sector files Hole n i below = sector-zeros n i below
 piece-sector files Zero n i below = sector-zeros n i below
 piece-sector files (Filled layer place) n i below = sector-part (file_at files layer) place n i below
 
--- the bytes of a piece are put between what was there before and behind it
-module _ (files : List (List ℕ)) (what : PieceWhat) (at from n a c : ℕ) (old front rest piece back : List ℕ) (order : at ≤ from) (a_is : a ≡ 512 * (from - at)) (c_is : c ≡ 512 * n)
+-- the bytes of a part are put between what was there before and behind it
+module _ (said : ℕ → List ℕ) (at from n a c : ℕ) (old front rest piece back : List ℕ) (order : at ≤ from) (a_is : a ≡ 512 * (from - at)) (c_is : c ≡ 512 * n)
     (front_is : front ≡ take a old) (rest_is : rest ≡ drop a old) (back_is : back ≡ drop c rest) (fits : 512 * (from + n) ≤ 512 * at + length old)
-    (size : length piece ≡ c) (filled : piece ≡ bytes_by files what n) where
-  s : ℕ
-  s = from - at
-
+    (size : length piece ≡ c) (says : (i : ℕ) → i < n → sector_at piece i ≡ said (from + i)) where
   front-long : length front ≡ 512 * (from - at)
   front-long = ap (length {A = ℕ}) front_is ∙ length-take-le a old (omega (arith, a_is, fits, order)) ∙ a_is
 
@@ -110,15 +107,15 @@ module _ (files : List (List ℕ)) (what : PieceWhat) (at from n a c : ℕ) (old
       ∙ sym (sector-left front rest k (omega (arith, front-long, low)))
       ∙ ap (λ (bytes : List ℕ). sector_at bytes k) ((λ i. front_is i ++ rest_is i) ∙ take-append-drop a old)
 
-  inside : (k : ℕ) → from ≤ at + k → at + k < from + n → sector_at (front ++ (piece ++ back)) k ≡ sector_of files (onward what (at + k - from))
+  inside : (k : ℕ) → from ≤ at + k → at + k < from + n → sector_at (front ++ (piece ++ back)) k ≡ said (at + k)
   inside k low high =
       let i : ℕ = at + k - from in
       let below : i < n = omega (arith, low, high) in
       ap (sector_at (front ++ (piece ++ back))) (let e : k ≡ (from - at) + i = omega (arith, low, order) in e)
       ∙ sector-right front (piece ++ back) (from - at) i front-long
       ∙ sector-left piece back i (omega (arith, size, c_is, below))
-      ∙ ap (λ (bytes : List ℕ). sector_at bytes i) filled
-      ∙ piece-sector files what n i below
+      ∙ says i below
+      ∙ ap said (let e : from + i ≡ at + k = omega (arith, low) in e)
 
   behind : (k : ℕ) → from + n ≤ at + k → sector_at (front ++ (piece ++ back)) k ≡ sector_at old k
   behind k high =
@@ -133,8 +130,16 @@ module _ (files : List (List ℕ)) (what : PieceWhat) (at from n a c : ℕ) (old
       ∙ sector-behind old ((from - at) + n) j
       ∙ ap (sector_at old) (let e : (from - at) + n + j ≡ k = omega (arith, where_from) in e)
 
-  pub piece-filled : IsFilled (λ i. sector_of files (onward what (i - from))) at from (from + n) old (front ++ (piece ++ back))
-  piece-filled = record { order = omega arith; inside = inside; before = before; behind = behind }
+  pub part-filled : IsFilled said at from (from + n) old (front ++ (piece ++ back))
+  part-filled = record { order = omega arith; inside = inside; before = before; behind = behind }
+
+-- so it is where they are those of a piece of the layers
+pub piece-filled : (files : List (List ℕ)) (what : PieceWhat) (at from n a c : ℕ) (old front rest piece back : List ℕ) → at ≤ from → a ≡ 512 * (from - at) → c ≡ 512 * n
+    → front ≡ take a old → rest ≡ drop a old → back ≡ drop c rest → 512 * (from + n) ≤ 512 * at + length old → length piece ≡ c → piece ≡ bytes_by files what n
+    → IsFilled (λ i. sector_of files (onward what (i - from))) at from (from + n) old (front ++ (piece ++ back))
+piece-filled files what at from n a c old front rest piece back order a_is c_is front_is rest_is back_is fits size filled =
+    part-filled (λ i. sector_of files (onward what (i - from))) at from n a c old front rest piece back order a_is c_is front_is rest_is back_is fits size
+    (λ i below. ap (λ (bytes : List ℕ). sector_at bytes i) filled ∙ piece-sector files what n i below ∙ ap (λ (k : ℕ). sector_of files (onward what k)) (let e : i ≡ from + i - from = omega arith in e))
 
 -- one extent more is filled
 filled-more : (said : ℕ → List ℕ) (at : ℕ) (extents : List Extent) (extent : Extent) (old mid new : List ℕ) → AreFilled said at extents old mid
@@ -202,3 +207,10 @@ gaps-lie hole at size from until (gap ∷ gaps) low high are =
     let next = are.0 in
     All-cons (LiesIn at size) gap gaps (record { from = omega (arith, low, next.begins); to = omega (arith, next.ends, high) })
     (gaps-lie hole at size (gap.at + gap.count) until gaps (omega (arith, low, next.begins)) high are.1)
+
+-- and end in the range
+pub gaps-within : (hole : ℕ → Type 0) (from until most : ℕ) (gaps : List Extent) → until ≤ most → AreGaps hole from until gaps → All (λ (e : Extent). e.at + e.count ≤ most) gaps
+gaps-within hole from until most [] high are = All-nil (λ (e : Extent). e.at + e.count ≤ most)
+gaps-within hole from until most (gap ∷ gaps) high are =
+    let next = are.0 in
+    All-cons (λ (e : Extent). e.at + e.count ≤ most) gap gaps (omega (arith, next.ends, high)) (gaps-within hole (gap.at + gap.count) until most gaps high are.1)

@@ -11,7 +11,7 @@ use Rattle.sealed_layer.specs.Layers.{LayerIndex}
 use Rattle.image_core.specs.Numbers.{manifest_file}
 use Rattle.image_core.specs.Loading.{upper_uuid}
 use Rattle.image_core.specs.Creating.{LeavesInOrder, IsMadeLast}
-use Rattle.image_core.proofs.StepGoes.{not-manifest}
+use Rattle.image_core.proofs.StackLaws.{not-manifest}
 
 -- one run after another
 pub leaves-joined : {I : Type 0} (old mid new : DiskState) (P : I → Files → Type 0) → LeavesOnly old mid P → LeavesOnly mid new P → LeavesOnly old new P

@@ -1,7 +1,6 @@
 -- Steps of an image that are calls on its top.
 use Rattle.std.proofs.Common.{◌≡◌, ℕ, ◌+◌, ◌*◌, ◌^◌, ◌<◌, ◌≤◌, inl, inr, Bool, false, List, [], ◌∷◌, ◌++◌, length, refl, sym, ap, ◌∙◌, subst, arith, length-append}
-use Rattle.std.specs.Prelude.{All, Option, Some, None}
-use Rattle.std.specs.Arc.{arc_value}
+use Rattle.std.specs.Prelude.{All, Contains, ◌⊎◌, Option, Some, None}
 use Rattle.block_disk.specs.DiskState.{DiskState, Files, Leaves}
 use Rattle.block_disk.specs.Claims.{LeavesOnly, Beside, Quiet}
 use Rattle.block_disk.proofs.Moments.{by_quiet}
@@ -25,29 +24,25 @@ use Rattle.top_writer.specs.View.{view_of, epoch_of, sectors_of, sequence_of}
 use Rattle.image_core.specs.declared.image.Image.{Image}
 use Rattle.image_core.specs.declared.parts.Parts.{Parts}
 use Rattle.block_disk.specs.declared.disk.Disk.{Ghosts}
-use Rattle.image_core.specs.Numbers.{manifest_file}
+use Rattle.image_core.specs.Numbers.{sealed_file}
+use Rattle.image_core.specs.Manifest.{Names}
+use Rattle.flat_image.specs.Base.{pending_of}
+use Rattle.image_core.specs.declared.parts.Stack.{Stack}
 use Rattle.image_core.specs.Shows as shows
-use Rattle.image_core.specs.View.{AreLayersOf}
-use Rattle.image_core.specs.Pieces.{IsSnapshotOf}
 use Rattle.image_core.specs.FileSets.{FilesFit}
 use Rattle.image_core.specs.Standing.{ShowsLeft}
 use Rattle.image_core.specs.MayBe.{ShowsMayBe, KeptStand}
-use Rattle.image_core.specs.Parts.{parts_view, PartsFit}
+use Rattle.image_core.specs.Parts.{parts_view, StackFits, WasMade, PartsFit}
 use Rattle.image_core.specs.Seen.{Seen, seen, with_disk, StandsFor, ShowsLeftWithin, Goes}
 use Rattle.image_core.proofs.FilesShown.{files-shown}
 use Rattle.image_core.proofs.Lifts.{left-of, kept-more, kept-one, kept-too, blamed-more, fault-entry, fault-more}
 use Rattle.image_core.proofs.PartsHold.{top-room, files-fit}
+use Rattle.image_core.proofs.StackLaws.{not-manifest, not-sealed, not-frozen_file, not-next_file, stack-spared, made-spared}
 
 -- the same but for the top and the steps
 pub record IsSameBesides (p q : Parts) : Type 0 where
   pub manifest : q.manifest ≡ p.manifest
-  pub lowers : q.lowers ≡ p.lowers
-  pub snapshot : q.snapshot ≡ p.snapshot
-
-pub not-manifest : (epoch f : ℕ) → f ≡ manifest_file → TopFiles epoch f → ⊥
-not-manifest epoch f is (inl data_is) = omega (arith, is, data_is)
-not-manifest epoch f is (inr (inl index_is)) = omega (arith, is, index_is)
-not-manifest epoch f is (inr (inr mark_is)) = omega (arith, is, mark_is)
+  pub stack : q.stack ≡ p.stack
 
 -- what a crash leaves of the history it may leave within any step
 pub left-within : (base : Base) (history : History) (noted : Option Act) (files : Files) → ShowsLeft base history files → ShowsLeftWithin base history noted files
@@ -70,22 +65,34 @@ module _ (x y : Seen) (becomes : Stand → Stand) (leaves : Stand → List Stand
       → PartsFit y.tells y.state y.parts (put_top b (becomes (stand b))) (leaves (stand b) tops) attempts
   fits-after b tops attempts fit =
       let asked : HeadsAsked = shows.heads_asked fit.exact (shows.epoch_of b) b.lowers in
-      let others = (goes.any_moment b.sectors asked (stand b) tops fit.top).others in
+      let run = goes.any_moment b.sectors asked (stand b) tops fit.top in
+      let others = run.others in
+      let own : (f : ℕ) → TopFiles (epoch_of x.parts.top) f → TopFiles (shows.epoch_of b) f = λ f of_top. subst (λ e. TopFiles e f) fit.epoch of_top in
       let kept : IsKept y.state x.parts.manifest = λ file left. fit.manifest file
       (others.left x.parts.manifest.file file (not-manifest (epoch_of x.parts.top) x.parts.manifest.file fit.manifest_is) left) in
       let made : Base = put_top b (becomes (stand b)) in
+      let pending : ¬ TopFiles (epoch_of x.parts.top) (sealed_file (length b.done)) = not-sealed (epoch_of x.parts.top) (length b.done) in
+      let under : StackFits x.tells y.state fit.exact b.sectors b.lowers b.done b.frozen x.parts.stack =
+      stack-spared x.tells x.state y.state (TopFiles (epoch_of x.parts.top)) others fit.exact b.sectors b.lowers b.done pending b.frozen x.parts.stack
+      (λ k below. not-sealed (epoch_of x.parts.top) k)
+      (λ f of_frozen of_top. not-frozen_file (length b.done) b.frozen f of_frozen (own f of_top))
+      (λ t is f of_next of_top. not-next_file x.tells x.state b.sectors (length b.done) b.frozen x.parts.stack.next t f is fit.stack.next of_next (own f of_top)) fit.stack in
+      let named : (body : List ℕ) → MayHold x.parts.manifest body → Names body (length b.done) (pending_of b.frozen) b.sectors
+      ⊎ ((a : Asked) × Contains attempts a × WasMade y.state b.sectors b.lowers b.done b.frozen x.parts.stack a body) =
+      λ body may. elim (fit.named body may) [
+        | inl names ↦ inl names
+        | inr m ↦ inr (m.0, m.1, made-spared x.tells x.state y.state (TopFiles (epoch_of x.parts.top)) others fit.exact b.sectors b.lowers b.done pending b.frozen x.parts.stack m.0 body m.2)
+      ] in
       subst (λ (t : Bool). PartsFit t y.state y.parts made (leaves (stand b) tops) attempts) (sym tells_is) (record {
         exact = fit.exact;
         sound = record { size = fit.sound.size; few = fit.sound.few; stack = fit.sound.stack; unlike = fit.sound.unlike };
-        none_done = fit.none_done;
-        none_frozen = fit.none_frozen;
         manifest_is = ap (λ m. m.file) same.manifest ∙ fit.manifest_is;
         manifest = subst (IsKept y.state) (sym same.manifest) kept;
         format = λ body may. fit.format body (subst (λ m. MayHold m body) same.manifest may);
-        named = λ body may. fit.named body (subst (λ m. MayHold m body) same.manifest may);
-        lowers = subst (AreLayersOf b.lowers) (sym same.lowers) fit.lowers;
-        snapshot = let one = same.snapshot in let two = same.lowers in subst (λ l. IsSnapshotOf (arc_value y.parts.snapshot) l []) (sym two)
-            (subst (λ s. IsSnapshotOf (arc_value s) x.parts.lowers []) (sym one) fit.snapshot);
+        named = λ body may. subst (λ (s : Stack). Names body (length b.done) (pending_of b.frozen) b.sectors
+            ⊎ ((a : Asked) × Contains attempts a × WasMade y.state b.sectors b.lowers b.done b.frozen s a body)) (sym same.stack)
+            (named body (subst (λ m. MayHold m body) same.manifest may));
+        stack = subst (StackFits x.tells y.state fit.exact b.sectors b.lowers b.done b.frozen) (sym same.stack) under;
         epoch = goes.epoch ∙ fit.epoch;
         top = goes.fits b.sectors asked (stand b) tops fit.top;
       })
@@ -102,7 +109,8 @@ module _ (x y : Seen) (becomes : Stand → Stand) (leaves : Stand → List Stand
       let left : (files : Files) → Beside (TopFiles (epoch_of x.parts.top)) x.state (ShowsOne (epoch_of x.parts.top) b.sectors asked may) files → ShowsLeft base history files =
       λ files beside.
       let fits : FilesFit b may stands.attempts files =
-      files-fit x.tells x.state x.parts b stands.tops stands.attempts stands.fits may files (beside.others manifest_file (not-manifest (epoch_of x.parts.top) manifest_file refl))
+      files-fit x.tells x.state x.parts b stands.tops stands.attempts stands.fits may files
+      (λ f not. beside.others f (λ of_top. not (subst (λ e. TopFiles e f) stands.fits.epoch of_top)))
       (subst (λ e. ShowsOne e b.sectors asked may files) stands.fits.epoch beside.has) in
       let shown : ShowsMayBe b may stands.attempts files = files-shown b may stands.attempts files good.0 good.1 fits in
       record {
@@ -173,7 +181,11 @@ goes-refused x y same tells_is steps sequence rise goes = record {
 -- an image that nothing is done to
 pub goes-not : (x : Seen) → KnowsNow x.state → Goes x x None
 goes-not x now_at =
-    goes-refused x x (record { manifest = refl; lowers = refl; snapshot = refl }) refl refl refl (omega arith) (goes_same x.tells x.state x.parts.top x.parts.top refl now_at)
+    goes-refused x x (record { manifest = refl; stack = refl }) refl refl refl (omega arith) (goes_same x.tells x.state x.parts.top x.parts.top refl now_at)
+
+-- and that notes nothing
+pub goes-unnoted : (x : Seen) (noted : Option Act) → KnowsNow x.state → noted ≡ None → Goes x x noted
+goes-unnoted x noted now_at is = subst (Goes x x) (sym is) (goes-not x now_at)
 
 -- how many faults there are with one act more
 pub counts-clean : (faults later : ℕ) (act : Act) → is_fault act ≡ false → faults ≤ later → (base : Base) (history : History) (number : ℕ)
@@ -228,15 +240,15 @@ module _ {D : Type 0} (kind : Ghosts D) (image : Image D) (disk : D) (now_at : K
       → Goes (seen kind image) (with_disk kind disk (record image.parts { steps = image.parts.steps + 1 })) (Some (Read at count))
   reads-noted at count within =
       goes-noted (seen kind image) (with_disk kind disk (record image.parts { steps = image.parts.steps + 1 })) unchanged as_before (Read at count)
-      (record { manifest = refl; lowers = refl; snapshot = refl }) refl refl as_top refl (λ b. refl) (λ b is. omega (arith, is, within))
+      (record { manifest = refl; stack = refl }) refl refl as_top refl (λ b. refl) (λ b is. omega (arith, is, within))
       (counts-clean (kind.faults image.disk) (kind.faults disk) (Read at count) refl rise) (keeps-before (Read at count) refl)
 
   pub reads-failed : kind.faults image.disk < kind.faults disk
       → Goes (seen kind image) (with_disk kind disk (record image.parts { steps = image.parts.steps + 1 })) (Some (Fault Nothing))
   reads-failed rose =
       goes-noted (seen kind image) (with_disk kind disk (record image.parts { steps = image.parts.steps + 1 })) unchanged as_before (Fault Nothing)
-      (record { manifest = refl; lowers = refl; snapshot = refl }) refl refl as_top refl (λ b. refl) (λ b is. tt)
+      (record { manifest = refl; stack = refl }) refl refl as_top refl (λ b. refl) (λ b is. tt)
       (counts-fault (kind.faults image.disk) (kind.faults disk) Nothing (omega (arith, rose))) (keeps-before (Fault Nothing) refl)
 
   pub reads-refused : Goes (seen kind image) (with_disk kind disk image.parts) None
-  reads-refused = goes-refused (seen kind image) (with_disk kind disk image.parts) (record { manifest = refl; lowers = refl; snapshot = refl }) refl refl refl rise as_top
+  reads-refused = goes-refused (seen kind image) (with_disk kind disk image.parts) (record { manifest = refl; stack = refl }) refl refl refl rise as_top

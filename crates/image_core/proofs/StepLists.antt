@@ -14,7 +14,7 @@ use Rattle.image_core.specs.declared.steps.Numbered.{Numbered}
 use Rattle.image_core.specs.declared.steps.Reply.{Reply}
 use Rattle.image_core.specs.Seen.{seen, StandsFor, IsImage, more}
 use Rattle.image_core.specs.declared.steps.Step.{Step}
-use Rattle.image_core.specs.declared.steps.Step.TheVariants.{Plan, Write, Zero, Flush, Grow, Status}
+use Rattle.image_core.specs.declared.steps.Step.TheVariants.{Plan, Write, Zero, Flush, Grow, Freeze, Copy, Seal, Sweep, Status}
 use Rattle.image_core.specs.Steps.{MayStep, noted_with, noted_as, noted_by, AreReplies, added, Makes, GoesBy, MakesNext}
 
 -- a history with what is noted
@@ -40,6 +40,10 @@ may-more n m (Write e bytes) more may = (may.0, omega (arith, may.1, more))
 may-more n m (Zero e) more may = omega (arith, may, more)
 may-more n m Flush more may = tt
 may-more n m (Grow sectors) more may = may
+may-more n m (Freeze uuid) more may = may
+may-more n m (Copy uuid) more may = tt
+may-more n m (Seal uuid) more may = tt
+may-more n m Sweep more may = tt
 may-more n m Status more may = tt
 
 module _ {D : Type 0} (kind : Ghosts D) where

@@ -1,6 +1,8 @@
 pub mod Seen
+pub mod Committing
 pub mod Creating
 pub mod FileSets
+pub mod Found
 pub mod Growing
 pub mod Keeping
 pub mod Laws
@@ -13,8 +15,11 @@ pub mod Parts
 pub mod Pieces
 pub mod Planning
 pub mod Shows
+pub mod SourceLaws
+pub mod Sources
 pub mod Standing
 pub mod Steps
+pub mod Sweeping
 pub mod Upper
 pub mod View
 pub mod Whole

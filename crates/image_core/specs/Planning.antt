@@ -36,8 +36,6 @@ PlanReads image base history at count old new =
 -- and behind them the committed ones; and no cell names another file.
 pub record ReadsBelow (base : Base) (history : History) (s : SnapshotView) : Type 0 where
   pub lowers_are : s.lowers ≡ length base.lowers
-  -- until there are commits
-  pub none_done : committed base history ≡ []
   pub named : AreOnShelf (length (base.lowers ++ committed base history)) (cells_of s.index)
   pub image : IsImage (size base history) (after base history)
   pub sectors : (i : ℕ) → i < size base history → IsGap (now base history) i

@@ -109,26 +109,22 @@ pub record Goes (old new : Seen) (noted : Option Act) : Type 0 where
 abbrev pub Rests : Seen → Seen → Type 0
 Rests old new = Quiet old.state new.state
 
--- An image that was opened on a disk in that state, over these lower files: it stands for nothing done over a base without
--- commits that the disk's files show, with no sequence over 2^61, where it tells; where it does not, over what was read of
--- it, with zeros as data.
+-- An image that was opened on a disk in that state, over these lower files: it stands for nothing done over a base that the
+-- disk's files show, with no sequence over 2^61, where it tells; where it does not, over what was read of it, with zeros
+-- as data.
 pub record IsLoaded (old : DiskState) (files : List (List ℕ)) (image : Seen) : Type 0 where
   pub base : Base
   pub lowers_are : base.lowers ≡ files
   pub faults_are : base.faults ≡ image.faults
   pub shows : IsTrue image.tells → shows.Shows old.seen base
   pub unworn : (told : IsTrue image.tells) → IsUnworn old.seen base (shows told)
-  pub none_done : base.done ≡ []
-  pub none_frozen : base.frozen ≡ None
   pub untold : ¬ IsTrue image.tells → base ≡ blank_base files (parts_view image.parts) image.faults
   pub stands : StandsFor image base []
 
--- The same over lower layers whose files are told or not: it stands for nothing done over a base without commits from which
--- it starts, and no sequence that the files show is over 2^61.
+-- The same over lower layers whose files are told or not: it stands for nothing done over a base from which it starts, and
+-- no sequence that the files show is over 2^61.
 pub record IsOpened (old : DiskState) (told : Option (List (List ℕ))) (image : Seen) : Type 0 where
   pub base : Base
   pub starts : StartsFrom image.tells old.seen image.faults told (parts_view image.parts) base
   pub unworn : (told : IsTrue image.tells) → IsUnworn old.seen base (starts.told told)
-  pub none_done : base.done ≡ []
-  pub none_frozen : base.frozen ≡ None
   pub stands : StandsFor image base []

@@ -1,5 +1,5 @@
 -- Lists of steps of an image: when they may be asked for, what they note, and what their replies say.
-use Rattle.std.specs.Prelude.{◌≡◌, ℕ, ◌+◌, ◌*◌, ◌^◌, ◌≤◌, ◌↔◌, List, [], ◌∷◌, ◌++◌, length, drop, replicate, All, Bool, IsTrue, Option, Some, None, Result, Err, OnOk, IsErrOf, ⊤}
+use Rattle.std.specs.Prelude.{◌≡◌, ◌≢◌, ℕ, ◌+◌, ◌*◌, ◌^◌, ◌<◌, ◌≤◌, ◌↔◌, List, [], ◌∷◌, ◌++◌, length, map, drop, replicate, All, Bool, IsTrue, Option, Some, None, Result, Err, OnOk, IfOk, IsErrOf, ⊤}
 use Rattle.sector_extent.specs.Causes.{Charges}
 use Rattle.block_disk.specs.declared.disk.Disk.{Ghosts}
 use Rattle.sector_extent.specs.declared.extent.Extent.{Extent}
@@ -8,7 +8,9 @@ use Rattle.flat_image.specs.declared.act.Act.{Act}
 use Rattle.flat_image.specs.declared.act.Act.TheVariants as acts
 use Rattle.flat_image.specs.declared.base.Base.{Base}
 use Rattle.flat_image.specs.Sheets.{Cell}
+use Rattle.lsmt_header.specs.Blocks.{nil}
 use Rattle.flat_image.specs.Base.{pending_of}
+use Rattle.flat_image.specs.LayerReading.{uuid_in}
 use Rattle.flat_image.specs.Entries.{entry}
 use Rattle.flat_image.specs.History.{History, now, is_fault, IsOver}
 use Rattle.top_writer.specs.declared.fault.WriteFault.{WriteFault}
@@ -18,12 +20,16 @@ use Rattle.top_writer.specs.Gaps.{Paints, IsHole, AreGaps}
 use Rattle.image_core.specs.declared.image.Image.{Image}
 use Rattle.image_core.specs.declared.status.Status as statuses
 use Rattle.image_core.specs.declared.steps.Step.{Step}
-use Rattle.image_core.specs.declared.steps.Step.TheVariants.{Plan, Write, Zero, Flush, Grow, Status}
+use Rattle.image_core.specs.declared.steps.Step.TheVariants.{Plan, Write, Zero, Flush, Grow, Freeze, Copy, Seal, Sweep, Status}
 use Rattle.image_core.specs.declared.steps.Numbered.{Numbered}
 use Rattle.image_core.specs.declared.steps.Reply.{Reply}
-use Rattle.image_core.specs.declared.steps.Reply.TheVariants.{Planned, Wrote, Zeroed, Flushed, Grown, Now}
-use Rattle.image_core.specs.Growing.{noted_grow, IsRefusedGrow}
-use Rattle.image_core.specs.Parts.{noted_change, noted_call, noted_read}
+use Rattle.image_core.specs.declared.steps.Reply.TheVariants.{Planned, Wrote, Zeroed, Flushed, Grown, Frozen, Copied, SealedAs, Swept, Now}
+use Rattle.image_core.specs.Committing.{noted_freeze, noted_copy, noted_seal, noted_peek, IsRefusedFreeze, IsRefusedCopy, IsRefusedSeal, IsCopied, done_of, total_of}
+use Rattle.image_core.specs.declared.commit.SealFault.{SealFault}
+use Rattle.image_core.specs.declared.commit.SealFault.TheVariants.{NotPending, NotWhole}
+use Rattle.image_core.specs.Growing.{noted_grow, pending_in, IsRefusedGrow}
+use Rattle.image_core.specs.View.{ImageView}
+use Rattle.image_core.specs.Parts.{parts_view, noted_change, noted_call, noted_read}
 use Rattle.image_core.specs.Seen.{Seen, seen, StandsFor, Goes}
 use Rattle.image_core.specs.Upper.{upper}
 
@@ -34,6 +40,10 @@ MayStep n (Write e bytes) = (length bytes ≡ 512 * e.count) × (e.at + e.count 
 MayStep n (Zero e) = e.at + e.count ≤ n
 MayStep n Flush = ⊤
 MayStep n (Grow sectors) = sectors ≤ 2 ^ 31
+MayStep n (Freeze uuid) = uuid ≢ nil
+MayStep n (Copy uuid) = ⊤
+MayStep n (Seal uuid) = ⊤
+MayStep n Sweep = ⊤
 MayStep n Status = ⊤
 
 -- and so may each step of the list
@@ -47,6 +57,10 @@ noted_with (Write e bytes) (Wrote outcome) = noted_change (acts.Write e.at bytes
 noted_with (Zero e) (Zeroed outcome) = noted_change (acts.Zero e.at e.count) outcome
 noted_with Flush (Flushed outcome) = noted_call acts.Flush outcome
 noted_with (Grow sectors) (Grown outcome) = noted_grow sectors outcome
+noted_with (Freeze uuid) (Frozen outcome) = noted_freeze uuid outcome
+noted_with (Copy uuid) (Copied outcome) = noted_copy outcome
+noted_with (Seal uuid) (SealedAs outcome) = noted_seal uuid outcome
+noted_with Sweep (Swept outcome) = noted_peek outcome
 noted_with step reply = None
 
 -- the entry of an act, or none
@@ -79,6 +93,17 @@ pub record IsTold (b : Base) (s : statuses.Status) : Type 0 where
   pub layers : s.layers ≡ length b.lowers + length b.done
   pub pending : s.pending ≡ pending_of b.frozen
 
+-- what a seal of the commit with this uuid replies of an image with so many committed layers: how many; that another
+-- commit is in progress or none, just where it is so; or that pieces of its file are left
+pub record SealSaid (pending : Option (List ℕ)) (count : ℕ) (uuid : List ℕ) (outcome : Result ℕ SealFault) : Type 0 where
+  pub epoch : IfOk outcome (λ epoch. epoch ≡ count)
+  pub other : (pending ≢ Some uuid) ↔ (outcome ≡ Err (NotPending pending))
+  pub only : (said : Option (List ℕ)) → outcome ≡ Err (NotPending said) → said ≡ pending
+  pub left : (done total : ℕ) → outcome ≡ Err (NotWhole done total) → done < total
+
+abbrev pub IsSealReply : Base → List ℕ → Result ℕ SealFault → Type 0
+IsSealReply b uuid outcome = SealSaid (pending_of b.frozen) (length b.done) uuid outcome
+
 -- what a step may reply of an image that is made of b
 abbrev pub IsReply : Bool → Base → Step → Reply → Type 0
 IsReply tells b (Plan e) (Planned outcome bytes gaps) = IsPlanReply tells (upper b) e outcome bytes gaps
@@ -87,6 +112,10 @@ IsReply tells b (Zero e) (Zeroed outcome) =
     IsRefusedFull b.rows b.filled (b.rows + rows_for e.count) b.filled outcome × (IsErrOf outcome Failed → ⊥)
 IsReply tells b Flush (Flushed outcome) = ⊤
 IsReply tells b (Grow sectors) (Grown outcome) = IsRefusedGrow (pending_of b.frozen) b.sectors sectors outcome
+IsReply tells b (Freeze uuid) (Frozen outcome) = IsRefusedFreeze (pending_of b.frozen) (map uuid_in (b.lowers ++ b.done)) uuid outcome
+IsReply tells b (Copy uuid) (Copied outcome) = IsRefusedCopy (pending_of b.frozen) uuid outcome
+IsReply tells b (Seal uuid) (SealedAs outcome) = IsSealReply b uuid outcome
+IsReply tells b Sweep (Swept outcome) = IfOk outcome (λ count. count ≡ length b.done)
 IsReply tells b Status (Now s) = IsTold b s
 IsReply tells b step reply = ⊥
 
@@ -109,12 +138,20 @@ abbrev pub NotesFault : Option Act → Type 0
 NotesFault None = ⊥
 NotesFault (Some act) = IsTrue (is_fault act)
 
+-- what a copy and a seal reply of the pieces of the commit's file, of an image that is seen so before the step and behind it
+abbrev pub CountsPieces : ImageView → ImageView → Step → Reply → Type 0
+CountsPieces old new (Copy uuid) (Copied outcome) = IfOk outcome (IsCopied old.commit new.commit)
+CountsPieces old new (Seal uuid) (SealedAs outcome) =
+    IsRefusedSeal (pending_in old) (done_of old.commit) (total_of old.commit) uuid outcome
+CountsPieces old new step reply = ⊤
+
 -- a step that is made, with its reply: what it makes of the image, what it replies of it, and that the disk counted a fault
 -- just where it notes one
 pub record Makes (old new : Seen) (s : Numbered) (reply : Reply) : Type 0 where
   pub goes : Goes old new (noted_with s.step reply)
   pub right : (base : Base) (history : History) → StandsFor old base history → IsReply old.tells (now base history) s.step reply
   pub cause : Charges {S = ℕ} (λ count. count) old.faults new.faults (NotesFault (noted_with s.step reply))
+  pub pieces : CountsPieces (parts_view old.parts) (parts_view new.parts) s.step reply
 
 -- The first steps of a list were made one after another, each from the image that the one before it left, and got these
 -- replies.

@@ -17,11 +17,14 @@ use Rattle.top_writer.specs.View.{cell_at}
 use Rattle.image_core.specs.Numbers.{sealed_file}
 use Rattle.image_core.specs.Shows.{epoch_of, AreSealed}
 
--- a commit in progress: its uuid, and the epoch and the table of the frozen top
+-- a commit in progress: its uuid, the epoch and the table of the frozen top, and how many pieces of its file are
+-- written, of how many
 pub record CommitView : Type 0 where
   pub uuid : List ℕ
   pub epoch : ℕ
   pub table : List Segment
+  pub done : ℕ
+  pub total : ℕ
 
 pub record ImageView : Type 0 where
   pub sectors : ℕ

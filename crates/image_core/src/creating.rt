@@ -15,8 +15,8 @@ ghost use Rattle.image_core.specs.Pieces.{IsSnapshotOf};
 ghost use Rattle.image_core.specs.Seen.{with_disk, StandsFor};
 ghost use Rattle.image_core.specs.Creating.{AreLegal, fresh_at, TellsExists, IsNewManifest, IsMadeLast};
 
-use crate::manifest::new_body;
-use crate::parts::{LayerList, Parts};
+use crate::manifest::plain_body;
+use crate::parts::{LayerList, Parts, Stack};
 use crate::snapshot::Snapshot;
 use block_disk::Disk;
 use gate_mark::{Mark, MarkFault};
@@ -90,7 +90,7 @@ impl Parts {
         ensures stands { IfOk result (λ parts. (files : List (List ℕ)) → AreLayersOf files lowers
             → StandsFor (with_disk D.Disk disk.new parts) (fresh_at sectors files (D.faults disk.new)) []) }
         ensures frame { IfOk result (λ parts.
-            (parts.lowers ≡ lowers) × (parts.steps ≡ 0) × (sectors_of parts.top ≡ sectors)) }
+            (parts.stack.lowers ≡ lowers) × (parts.steps ≡ 0) × (sectors_of parts.top ≡ sectors)) }
         ensures exists { IsTrue D.tells → TellsExists ((D.state disk.old).seen manifest_file) result }
         ensures cause { Charges D.faults disk.old disk.new (IsErrOf result faults.Failed) }
         ensures untouched { IsErrOf result faults.Exists → Quiet (D.state disk.old) (D.state disk.new) }
@@ -110,11 +110,10 @@ impl Parts {
             Err(TopMakeFault::Memory) => return Err(CreateFault::Memory),
             Err(TopMakeFault::Failed) => return Err(CreateFault::Failed),
         };
-        match Mark::format(disk, MANIFEST, &new_body(sectors)) {
+        match Mark::format(disk, MANIFEST, &plain_body(0, sectors)) {
             Ok(manifest) => Ok(Parts {
                 manifest,
-                lowers,
-                snapshot,
+                stack: Stack::of(alloc, lowers, snapshot),
                 top,
                 steps: 0,
             }),

@@ -36,7 +36,7 @@ ghost use Rattle.image_core.specs.Creating.{AreLegal, fresh_at, IsNewManifest, I
 use crate::creating::CreateFault;
 use crate::growing::GrowFault;
 use crate::loading::LoadFault;
-use crate::manifest::new_body;
+use crate::manifest::plain_body;
 use crate::parts::{LayerList, Parts};
 use crate::snapshot::Snapshot;
 use crate::status::Status;
@@ -113,11 +113,11 @@ impl<D: Disk> Image<D> {
         }
     }
 
-    /// Opens the image on a disk, over these lower layers, after a sync of its files. It writes
-    /// nothing.
+    /// Opens the image on a disk, over these lower layers, after a sync of each of its files. It writes and
+    /// cuts nothing. The copying of a commit in progress starts again from the first piece.
     pub fn load(alloc: Global, disk: D, lowers: LayerList) -> Result<Image<D>, (D, LoadFault)>
         requires few { length lowers ≤ 255 }
-        // only files without commits are opened, and none with a sequence over 2^61
+        // no files with a sequence over 2^61 are opened
         ensures stands { IfOk result (λ image. (files : List (List ℕ)) → AreLayersOf files lowers
             → IsLoaded (D.state disk) files (seen D.Disk image)) }
         // and so where no files are told
@@ -126,23 +126,24 @@ impl<D: Disk> Image<D> {
             → IsOpened (D.state disk) told (seen D.Disk image)) }
         ensures standing { IfOk result (λ image. IsImage (seen D.Disk image)) }
         ensures frame { IfOk result (λ image. ((view image).lowers ≡ lowers) × ((view image).steps ≡ 0)) }
-        // files that show an image without commits over these layers are opened as that image, or there is no
-        // memory, or the disk fails
+        // files that show an image over these layers are opened as that image, or there is no memory, or the disk
+        // fails
         ensures complete { (base : bases.Base) (shows : Shows (D.state disk).seen base)
-            → IsUnworn (D.state disk).seen base shows → base.done ≡ [] → base.frozen ≡ None
-            → AreLayersOf base.lowers lowers → IsTrue D.tells
+            → IsUnworn (D.state disk).seen base shows → AreLayersOf base.lowers lowers → IsTrue D.tells
             → MatchResult result (λ image.
             StandsFor (seen D.Disk image) (record base { faults = faults_in D.Disk image }) [])
             (λ refusal. (refusal.1 ≡ why.Memory) ⊎ (refusal.1 ≡ why.Failed)) }
+        // a commit in progress begins anew: none of its file is written
+        ensures begun { IfOk result (λ image. IfSome (view image).commit (λ c. c.done ≡ 0)) }
         ensures reason { IfErr result (λ refusal. IsTrue D.tells → IsLoadReason (D.state disk).seen lowers refusal.1) }
         ensures quiet { MatchResult result (λ image. Quiet (D.state disk) (seen D.Disk image).state)
             (λ refusal. Quiet (D.state disk) (D.state refusal.0)) }
         ensures cause { MatchResult result (λ image. faults_in D.Disk image ≡ D.faults disk)
             (λ refusal. Charges D.faults disk refusal.0 (refusal.1 ≡ why.Failed)) }
     {
-        let mut disk = disk;
         layers_law(lowers.as_slice());
-        match Parts::load(alloc, &mut disk, lowers) {
+        let (disk, outcome) = Parts::load(alloc, disk, lowers);
+        match outcome {
             Ok(parts) => Ok(Image { disk, parts }),
             Err(fault) => Err((disk, fault)),
         }
@@ -243,6 +244,9 @@ impl<D: Disk> Image<D> {
         ensures same { OnErr result (¬ IsErrOf result grows.Failed → self.new ≡ self.old) }
         ensures cause { Charges (faults_in D.Disk) self.old self.new (IsErrOf result grows.Failed) }
     {
+        if let Some(uuid) = self.parts.stack.pending() {
+            return Err(GrowFault::Busy(uuid));
+        }
         let own = self.sectors();
         if sectors <= own {
             return Err(GrowFault::NotLarger(own));
@@ -255,9 +259,12 @@ impl<D: Disk> Image<D> {
                 return Err(GrowFault::Failed);
             }
         }
-        match self.parts.manifest.set(&mut self.disk, &new_body(sectors)) {
+        let count = self.parts.stack.count() as u64;
+        let body = plain_body(count, sectors);
+        match self.parts.manifest.set(&mut self.disk, &body) {
             Ok(()) => {
                 self.parts.top.grow(sectors);
+                self.parts.stack.grow(sectors);
                 self.parts.steps += 1;
                 Ok(())
             }
@@ -299,11 +306,12 @@ impl<D: Disk> Image<D> {
         ensures quiet { Rests (seen D.Disk self.old) (seen D.Disk self.new) }
         ensures cause { Charges (faults_in D.Disk) self.old self.new (IsErrOf result reads.Failed) }
     {
-        let Ok(snapshot) = Arc::try_clone(&self.parts.snapshot) else {
+        let Ok(snapshot) = Arc::try_clone(&self.parts.stack.snapshot) else {
             return Err(ReadFault::Memory);
         };
         *gaps = GapList::from_vec(Vec::new(alloc));
-        match self.parts.top.read_part(&mut self.disk, extent, out, gaps) {
+        let parts = &self.parts;
+        match parts.read_upper(alloc, &mut self.disk, extent, out, gaps) {
             Ok(()) => {
                 self.parts.steps += 1;
                 Ok(snapshot)
@@ -332,8 +340,8 @@ impl<D: Disk> Image<D> {
     {
         Status {
             sectors: self.sectors(),
-            layers: self.parts.snapshot.lowers(),
-            pending: None,
+            layers: self.parts.stack.snapshot.lowers() + self.parts.stack.count(),
+            pending: self.parts.stack.pending(),
         }
     }
 

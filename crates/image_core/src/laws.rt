@@ -49,7 +49,7 @@ pub fn standing_laws<D: Disk>(disk: &D, other: &D)
         → HistoryTells D.tells (D.state disk.now) (D.faults disk.now) v (D.state other.now) (D.faults other.now) w }
 {}
 
-/// What loading files gives that show an image without commits, and what an image stands for that was
+/// What loading files gives that show an image, and what an image stands for that was
 /// loaded of them.
 pub fn loading_laws<D: Disk>(old: &D, image: &Image<D>)
     ensures reopens { (files : Files) (base : Base) (layers : List LayerIndex) (fault : LoadFault)

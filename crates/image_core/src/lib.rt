@@ -2,19 +2,27 @@
 //! stands for a history.
 #![tactic(auto)]
 
+mod commit;
+mod committing;
 mod creating;
 mod growing;
 mod image;
 mod laws;
+mod load_layers;
+mod load_tops;
 mod loading;
 mod manifest;
 mod parts;
 mod snapshot;
 mod sources;
+mod stack;
 mod status;
 mod steps;
+mod sweeping;
+mod upper;
 mod whole;
 
+pub use commit::{CopyFault, CopyState, FreezeFault, SealFault};
 pub use creating::CreateFault;
 pub use growing::GrowFault;
 pub use image::Image;
@@ -26,16 +34,3 @@ pub use sources::LayerSource;
 pub use status::Status;
 pub use steps::{Numbered, Reply, ReplyList, Step, StepList, run_steps};
 pub use whole::WholeFault;
-
-#[cfg(test)]
-mod grow_tests;
-#[cfg(test)]
-mod old_tests;
-#[cfg(test)]
-mod steps_tests;
-#[cfg(test)]
-mod table_tests;
-#[cfg(test)]
-mod tests;
-#[cfg(test)]
-mod whole_tests;

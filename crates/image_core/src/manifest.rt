@@ -1,5 +1,6 @@
 //! The body of the manifest.
-ghost use Rattle.std.specs.Prelude.{◌≡◌, ℕ, None};
+ghost use Rattle.std.specs.Prelude.{◌≡◌, ◌≢◌, ℕ, ◌≤◌, Some, None};
+ghost use Rattle.lsmt_header.specs.Blocks.{nil};
 ghost use Rattle.image_core.specs.Manifest.{count_said, epoch_said, uuid_said, size_said, format_said, IsWritten};
 
 use byte_fields::FieldWriter;
@@ -25,9 +26,18 @@ fn body_of(committed: u64, epoch: u64, uuid: &[u8; 16], sectors: u64) -> [u8; 48
     body.finish()
 }
 
-// The body of an image of so many sectors without commits.
-pub(crate) fn new_body(sectors: u64) -> [u8; 48]
-    ensures { IsWritten result 0 None sectors }
+// The body of an image of so many sectors with so many committed layers, where no commit is in progress.
+pub(crate) fn plain_body(committed: u64, sectors: u64) -> [u8; 48]
+    ensures { IsWritten result committed None sectors }
 {
-    body_of(0, 0, &[0; 16], sectors)
+    body_of(committed, committed, &[0; 16], sectors)
+}
+
+// And where the commit of that uuid is.
+pub(crate) fn pending_body(committed: u64, uuid: &[u8; 16], sectors: u64) -> [u8; 48]
+    requires few { committed ≤ 255 }
+    requires named { uuid.now ≢ nil }
+    ensures { IsWritten result committed (Some uuid.now) sectors }
+{
+    body_of(committed, committed + 1, uuid, sectors)
 }

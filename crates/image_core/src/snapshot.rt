@@ -1,9 +1,13 @@
-ghost use Rattle.std.specs.Prelude.{◌≡◌, ◌+◌, ◌<◌, ◌≤◌, All, take, drop, length};
+ghost use Rattle.std.specs.Prelude.{◌≡◌, ◌+◌, ◌<◌, ◌≤◌, List, [], ◌∷◌, ◌++◌, All, IfOk, take, drop, length};
+ghost use Rattle.sealed_layer.specs.Layers.{LayerIndex};
+ghost use Rattle.image_core.specs.Pieces.{IsSnapshotOf};
 ghost use Rattle.merged_index.specs.Cells.{cells_of};
 ghost use Rattle.merged_index.specs.Pieces.{AreCells, IsUnparted};
 
 use merged_index::{MergedIndex, Piece};
-use sector_extent::{Extent, Found, Steps};
+use sealed_layer::Layer;
+use sector_extent::{Extent, Found, Memory, Steps};
+use std::alloc::Global;
 use std::marker::Model;
 use std::sync::ledger::Ledger;
 
@@ -31,6 +35,18 @@ impl Snapshot {
         ensures lowers { result.lowers ≡ lowers }
     {
         Snapshot { index, lowers }
+    }
+
+    // The snapshot with one more committed layer on top, under its number.
+    pub(crate) fn over(&self, alloc: Global, layer: &Layer, number: u8) -> Result<Snapshot, Memory>
+        ensures { IfOk result (λ s. (lowers committed : List LayerIndex) → IsSnapshotOf self.now lowers committed
+            → length lowers + length committed ≡ number → IsSnapshotOf s lowers (committed ++ layer.now ∷ [])) }
+    {
+        let index = self.index.over(alloc, layer, number)?;
+        Ok(Snapshot {
+            index,
+            lowers: self.lowers,
+        })
     }
 
     /// The find of the index: writes the pieces of the extent into `out`, up to the sector `until` of

@@ -4,8 +4,9 @@ ghost use Rattle.flat_image.specs.declared.base.Base as bases;
 ghost use Rattle.sector_extent.specs.Causes.{Charges};
 ghost use Rattle.flat_image.specs.History.{History, now};
 ghost use Rattle.image_core.specs.Seen.{seen, view, faults_in, IsImage, StandsFor, Goes};
-ghost use Rattle.image_core.specs.Steps.{MayStep, MayRun, noted_with, noted_by, NotesFault, IsReply, AreReplies, added, MakesNext, GoesBy};
+ghost use Rattle.image_core.specs.Steps.{MayStep, MayRun, noted_with, noted_by, NotesFault, CountsPieces, IsReply, AreReplies, added, MakesNext, GoesBy};
 
+use crate::commit::{CopyFault, CopyState, FreezeFault, SealFault};
 use crate::growing::GrowFault;
 use crate::image::Image;
 use crate::status::Status;
@@ -29,6 +30,14 @@ pub enum Step {
     Flush,
     /// The image gets so many sectors.
     Grow(u64),
+    /// The top is frozen, to become a layer with this uuid.
+    Freeze([u8; 16]),
+    /// The next piece of the file of the commit with this uuid is written.
+    Copy([u8; 16]),
+    /// The file of the commit with this uuid becomes a layer.
+    Seal([u8; 16]),
+    /// The files of tops that became layers are emptied.
+    Sweep,
     /// What the image says of itself.
     Status,
 }
@@ -56,6 +65,11 @@ pub enum Reply {
     Zeroed(Result<(), WriteFault>),
     Flushed(Result<(), DiskFailed>),
     Grown(Result<(), GrowFault>),
+    Frozen(Result<(), FreezeFault>),
+    Copied(Result<CopyState, CopyFault>),
+    /// The epoch of the layer.
+    SealedAs(Result<u32, SealFault>),
+    Swept(Result<u32, DiskFailed>),
     Now(Status),
 }
 
@@ -106,6 +120,7 @@ fn make_step<D: Disk>(alloc: Global, image: &mut Image<D>, step: &Step) -> Resul
         → StandsFor (seen D.Disk image.old) base history → IsReply D.tells (now base history) step.now reply) }
     ensures cause { IfOk result (λ reply. Charges (faults_in D.Disk) image.old image.new
         (NotesFault (noted_with step.now reply))) }
+    ensures pieces { IfOk result (CountsPieces (view image.old) (view image.new) step.now) }
     ensures err { OnErr result (image.new ≡ image.old) }
 {
     match step {
@@ -114,6 +129,10 @@ fn make_step<D: Disk>(alloc: Global, image: &mut Image<D>, step: &Step) -> Resul
         Step::Zero(extent) => Ok(Reply::Zeroed(image.zero(*extent))),
         Step::Flush => Ok(Reply::Flushed(image.flush())),
         Step::Grow(sectors) => Ok(Reply::Grown(image.grow(*sectors))),
+        Step::Freeze(uuid) => Ok(Reply::Frozen(image.freeze(alloc, *uuid))),
+        Step::Copy(uuid) => Ok(Reply::Copied(image.copy(*uuid))),
+        Step::Seal(uuid) => Ok(Reply::SealedAs(image.seal(*uuid))),
+        Step::Sweep => Ok(Reply::Swept(image.sweep())),
         Step::Status => Ok(Reply::Now(image.status())),
     }
 }

@@ -1,5 +1,5 @@
 //! Reads through the layers.
-ghost use Rattle.std.specs.Prelude.{◌≡◌, ◌≢◌, ℕ, ◌+◌, ◌-◌, ◌*◌, ◌^◌, ◌<◌, ◌≤◌, ◌↔◌, List, [], length, take, drop, All, IsTrue, IfOk, IfErr, OnOk, IfSome, IsErrOf, IsErr, slice_index_or};
+ghost use Rattle.std.specs.Prelude.{◌≡◌, ◌≢◌, ℕ, ◌+◌, ◌-◌, ◌*◌, ◌^◌, ◌<◌, ◌≤◌, ◌⊎◌, ◌↔◌, List, [], length, take, drop, All, IsTrue, IfOk, IfErr, OnOk, IfSome, IsErrOf, IsErr, slice_index_or};
 ghost use Rattle.std.specs.Arc.{arc_value};
 ghost use Rattle.std.specs.Option.{ForSome};
 ghost use Rattle.layer_shelf.specs.Shelves.{SameFiles};
@@ -10,7 +10,9 @@ ghost use Rattle.flat_image.specs.RowCells.{sector_at};
 ghost use Rattle.merged_index.specs.Cells.{cells_of};
 ghost use Rattle.merged_index.specs.Pieces.{IsPiece, end_of, onward};
 ghost use Rattle.merged_index.specs.Painting.{bytes_by};
-ghost use Rattle.image_core.specs.View.{AreLayersOf};
+ghost use Rattle.block_disk.specs.Claims.{Quiet};
+ghost use Rattle.image_core.specs.Sources.{files_told};
+ghost use Rattle.image_core.specs.View.{AreLayersOf, sealed_read};
 ghost use Rattle.image_core.specs.Upper.{IsGap};
 ghost use Rattle.image_core.specs.Seen.{seen, view, faults_in, IsImage, StandsFor, Goes, Rests};
 ghost use Rattle.sector_extent.specs.Causes.{Charges};
@@ -19,7 +21,7 @@ ghost use Rattle.image_core.specs.Whole.{noted_whole, sectors_by, IsFilled, AreF
 
 use crate::image::Image;
 use crate::snapshot::Snapshot;
-use crate::sources::LayerSource;
+use crate::sources::{ImageFiles, LayerSource};
 use block_disk::Disk;
 use flat_image::Stands;
 use layer_shelf::{Shelf, ShelfFailed};
@@ -292,10 +294,48 @@ impl Snapshot {
     }
 }
 
+// Fills the sectors of gaps from the lower layers, which are the files of a shelf, and from so many
+// committed ones on a disk.
+fn fill_gaps<S: Shelf, D: Disk>(
+    snapshot: &Snapshot,
+    shelf: &mut S,
+    disk: &mut D,
+    count: u8,
+    gaps: &[Extent],
+    at: u64,
+    out: &mut [u8],
+) -> Result<(), WholeFault>
+    requires named { AreOnShelf (S.count shelf.old + count) (cells_of snapshot.now.index) }
+    requires there { All (LiesIn at (length out.old)) gaps.now }
+    ensures filled { OnOk result (IfSome (files_told D.tells (S.files shelf.old)
+        (sealed_read (D.state disk.old).seen count)) (λ files.
+        AreFilled (sectors_by files (cells_of snapshot.now.index)) at gaps.now out.old out.new)) }
+    // with none committed the disk is not asked
+    ensures bare { OnOk result (count ≡ 0 → IfSome (S.files shelf.old) (λ files.
+        AreFilled (sectors_by files (cells_of snapshot.now.index)) at gaps.now out.old out.new)) }
+    ensures same { SameFiles S.files S.count shelf.old shelf.new }
+    ensures quiet { Quiet (D.state disk.old) (D.state disk.new) }
+    ensures cause { Charges D.faults disk.old disk.new (IsErrOf result why.DiskFault) }
+    ensures shelf_cause { Charges S.faults shelf.old shelf.new (IsErrOf result why.ShelfFault) }
+    ensures memory { IsErrOf result why.Memory → ⊥ }
+{
+    if count == 0 {
+        return match snapshot.fill(shelf, gaps, at, out) {
+            Ok(()) => Ok(()),
+            Err(ShelfFailed) => Err(WholeFault::ShelfFault),
+        };
+    }
+    let mut files = ImageFiles { shelf, disk, count };
+    match snapshot.fill(&mut files, gaps, at, out) {
+        Ok(()) => Ok(()),
+        Err(fault) => Err(fault),
+    }
+}
+
 impl<D: Disk> Image<D> {
-    /// Reads the sectors of an extent within the image: those that the top has, and the others through
-    /// the lower layers, which are the files of the shelf. Sectors that lie together in a file are one
-    /// read of it. After a refusal `out` may hold anything.
+    /// Reads the sectors of an extent within the image: those that the tops have, and the others through
+    /// the layers: the lower ones are the files of the shelf, and the committed ones stand on the disk.
+    /// Sectors that lie together in a file are one read of it. After a refusal `out` may hold anything.
     pub fn read_whole<S: Shelf>(
         &mut self,
         alloc: Global,
@@ -314,10 +354,11 @@ impl<D: Disk> Image<D> {
         ensures bytes { OnOk result (IsTrue D.tells → IfSome (S.files shelf.old) (λ files.
             (base : bases.Base) (history : History) → StandsFor (seen D.Disk self.old) base history
             → base.lowers ≡ files → out.new ≡ reply base history extent.at extent.count)) }
-        // what the upper part has not is read of the layers, also where the disk does not tell
+        // what the upper part has not is read of the layers, also where the disk does not tell, if nothing is committed
         ensures holes { OnOk result (IfSome (S.files shelf.old) (λ files.
             (base : bases.Base) (history : History) → StandsFor (seen D.Disk self.old) base history
-            → base.lowers ≡ files → (k : ℕ) → k < extent.count → IsGap (now base history) (extent.at + k)
+            → base.lowers ≡ files → IsTrue D.tells ⊎ ((view self.old).committed ≡ [])
+            → (k : ℕ) → k < extent.count → IsGap (now base history) (extent.at + k)
             → sector_at out.new k ≡ slice_index_or (after base history) (extent.at + k) [])) }
         ensures size { length out.new ≡ length out.old }
         ensures lowers { (view self.new).lowers ≡ (view self.old).lowers }
@@ -329,11 +370,8 @@ impl<D: Disk> Image<D> {
         ensures same { SameFiles S.files S.count shelf.old shelf.new }
     {
         let mut gaps = GapList::from_vec(Vec::new(alloc));
-        match self
-            .parts
-            .top
-            .read_part(&mut self.disk, extent, out, &mut gaps)
-        {
+        let parts = &self.parts;
+        match parts.read_upper(alloc, &mut self.disk, extent, out, &mut gaps) {
             Ok(()) => {}
             Err(ReadFault::Failed) => {
                 self.parts.steps += 1;
@@ -341,13 +379,28 @@ impl<D: Disk> Image<D> {
             }
             Err(ReadFault::Memory) => return Err(WholeFault::Memory),
         }
-        let snapshot: &Snapshot = &self.parts.snapshot;
-        match snapshot.fill(shelf, gaps.as_slice(), extent.at, out) {
+        let count = self.parts.stack.count() as u8;
+        let extents = gaps.as_slice();
+        let snapshot: &Snapshot = &self.parts.stack.snapshot;
+        match fill_gaps(
+            snapshot,
+            shelf,
+            &mut self.disk,
+            count,
+            extents,
+            extent.at,
+            out,
+        ) {
             Ok(()) => {
                 self.parts.steps += 1;
                 Ok(())
             }
-            Err(ShelfFailed) => Err(WholeFault::ShelfFault),
+            Err(WholeFault::DiskFault) => {
+                self.parts.steps += 1;
+                Err(WholeFault::DiskFault)
+            }
+            Err(WholeFault::ShelfFault) => Err(WholeFault::ShelfFault),
+            Err(WholeFault::Memory) => Err(WholeFault::Memory),
         }
     }
 }

@@ -1,5 +1,5 @@
 use Rattle.image_core.specs.Seen.{seen}
-use Rattle.image_core.proofs.Planned.{plan-reads}
+use Rattle.image_core.proofs.UpperPlans.{plan-reads}
 use Rattle.image_core.proofs.laws.planning_law.Goals as goal
 
 pub returns : goal.returns

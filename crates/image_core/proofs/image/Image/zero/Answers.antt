@@ -12,7 +12,7 @@ use Rattle.image_core.proofs.image.Image.zero.Goals as goal
 pub returns-in-Ok-clause-goes : goal.returns-in-Ok-clause-goes
 returns-in-Ok-clause-goes g c =
     goes-noted (seen g.D.Disk c.args.self.now) (with_disk g.D.Disk c.args.self.now.disk (record c.args.self.now.parts { top = c.zero.new.self; steps = c.args.self.now.parts.steps + 1 }))
-    (with_zero c.args.extent.at c.args.extent.count) as_before (Zero c.args.extent.at c.args.extent.count) (record { manifest = refl; lowers = refl; snapshot = refl }) refl refl
+    (with_zero c.args.extent.at c.args.extent.count) as_before (Zero c.args.extent.at c.args.extent.count) (record { manifest = refl; stack = refl }) refl refl
     (zero_goes g.D.Disk.tells (g.D.Disk.state c.args.self.now.disk) c.args.self.now.parts.top c.zero.new.self c.args.extent c.requires.within c.in-Ok.ensures.ok
     (λ files left. g.met.D.Disk.now_at c.args.self.now.disk files left))
     refl (λ b. refl) (λ b is. omega (arith, is, c.requires.within))
@@ -25,11 +25,11 @@ returns-in-Err-Failed-clause-goes g c = absurd (c.in-Err-Failed.ensures.failed (
 pub returns-in-Err-Memory-clause-goes : goal.returns-in-Err-Memory-clause-goes
 returns-in-Err-Memory-clause-goes g c =
     goes-refused (seen g.D.Disk c.args.self.now) (with_disk g.D.Disk c.args.self.now.disk (record c.args.self.now.parts { top = c.zero.new.self }))
-    (record { manifest = refl; lowers = refl; snapshot = refl }) refl refl (ap (λ v. sequence_in v.mark) c.in-Err-Memory.ensures.err) (omega arith)
+    (record { manifest = refl; stack = refl }) refl refl (ap (λ v. sequence_in v.mark) c.in-Err-Memory.ensures.err) (omega arith)
     (goes_same g.D.Disk.tells (g.D.Disk.state c.args.self.now.disk) c.args.self.now.parts.top c.zero.new.self c.in-Err-Memory.ensures.err (λ files left. g.met.D.Disk.now_at c.args.self.now.disk files left))
 
 pub returns-in-Err-Full-clause-goes : goal.returns-in-Err-Full-clause-goes
 returns-in-Err-Full-clause-goes g c =
     goes-refused (seen g.D.Disk c.args.self.now) (with_disk g.D.Disk c.args.self.now.disk (record c.args.self.now.parts { top = c.zero.new.self }))
-    (record { manifest = refl; lowers = refl; snapshot = refl }) refl refl (ap (λ v. sequence_in v.mark) c.in-Err-Full.ensures.err) (omega arith)
+    (record { manifest = refl; stack = refl }) refl refl (ap (λ v. sequence_in v.mark) c.in-Err-Full.ensures.err) (omega arith)
     (goes_same g.D.Disk.tells (g.D.Disk.state c.args.self.now.disk) c.args.self.now.parts.top c.zero.new.self c.in-Err-Full.ensures.err (λ files left. g.met.D.Disk.now_at c.args.self.now.disk files left))

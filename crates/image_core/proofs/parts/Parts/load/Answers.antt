@@ -1,82 +1,102 @@
-use Rattle.std.proofs.Common.{[], sym, subst, ap, ◌∙◌, refl}
-use Rattle.std.specs.Prelude.{Err}
-use Rattle.std.specs.Arc.{arc_value}
-use Rattle.std.proofs.lemmas.Result.{err_from_is_err_and}
-use Rattle.top_writer.proofs.QuietLaws.{quiet_joined}
-use Rattle.image_core.specs.Manifest.{size_said, exact_said}
-use Rattle.image_core.specs.Pieces.{IsSnapshotOf}
-use Rattle.image_core.specs.declared.loading.LoadFault.TheVariants as why
-use Rattle.image_core.specs.Loading.{heads_in, IsBareBody, HasManifest, AreStackOrNone, IsLowersReason, IsLoadReason}
-use Rattle.image_core.specs.Shows.{HaveSize}
+use Rattle.std.proofs.Common.{◌≡◌, ◌∙◌, ℕ, ◌++◌, List, length, take, drop, IsTrue, sym, ap, subst}
+use Rattle.std.specs.Prelude.{IfOk, IfErr, IfSome, IsErrOf}
+use Rattle.sector_extent.specs.Causes.{Charges}
 use Rattle.sector_extent.specs.CauseLaws.{calm_value}
-use Rattle.top_writer.specs.declared.fault.TopFault.TheVariants as tops
-use Rattle.image_core.proofs.FaultCounts.{stays, value_no_fault, memory_no_fault}
-use Rattle.image_core.proofs.Loaded.{lowers-reason, top-reason, loaded}
+use Rattle.sealed_layer.specs.Layers.{LayerIndex}
+use Rattle.top_writer.proofs.QuietLaws.{quiet_joined, quiet_three}
+use Rattle.image_core.specs.declared.loading.LoadFault.TheVariants as why
+use Rattle.image_core.specs.declared.parts.Parts.{Parts}
+use Rattle.image_core.specs.Loading.{IsLoadReason}
+use Rattle.image_core.specs.Found.{IsManifest, AreRead, StopsSealed, ArePartsRead, IsPartsReason}
+use Rattle.image_core.specs.Seen.{with_disk, IsLoaded}
+use Rattle.image_core.specs.View.{AreLayersOf}
+use Rattle.image_core.proofs.FaultCounts.{charges-after, ok-all, ok-both, err-all}
+use Rattle.image_core.proofs.LoadedImage.{loaded}
+use Rattle.image_core.proofs.LoadedParts.{cut-both}
+use Rattle.image_core.proofs.LoadReasons.{sealed-reason, parts-reason}
 use Rattle.image_core.proofs.parts.Parts.load.Goals as goal
 
-pub returns-in_err-manifest-clause-reason : goal.returns-in_err-manifest-clause-reason
-returns-in_err-manifest-clause-reason g c =
-    let p = err_from_is_err_and c.from_residual.result c.from_residual.ensures.1 in
-    rw (p.1, p.2) (λ told. c.in_err-manifest.ensures.reason told c.args.lowers)
+pub returns-in-Err-clause-reason : goal.returns-in-Err-clause-reason
+returns-in-Err-clause-reason g c =
+    subst (λ (l : List LayerIndex). IsTrue g.D.Disk.tells → IsLoadReason (g.D.Disk.state c.args.disk).seen l c.in-Err.fault) c.as_slice.ensures c.in-Err.ensures.reason
 
-pub returns-in-Err-Memory-clause-quiet : goal.returns-in-Err-Memory-clause-quiet
-returns-in-Err-Memory-clause-quiet g c = quiet_joined (g.D.Disk.state c.args.disk.now) (g.D.Disk.state c.load_manifest.new.disk) (g.D.Disk.state c.load.new.disk) c.load_manifest.ensures.quiet c.load.ensures.quiet
+pub returns-in-Err-layers-clause-reason : goal.returns-in-Err-layers-clause-reason
+returns-in-Err-layers-clause-reason g c told =
+    let old = g.D.Disk.state c.args.disk in
+    let one = g.D.Disk.state c.open_manifest.new.disk in
+    let m = subst (λ (l : List LayerIndex). IsManifest g.D.Disk.tells old one l c.in-Ok.found.0 c.in-Ok.found.1) c.as_slice.ensures c.in-Ok.ensures.found in
+    let stops = (subst (λ r. IfErr r (λ fault. IsTrue g.D.Disk.tells → StopsSealed one.seen c.in-Ok.found.1.count fault)) c.in-Err-layers.is c.read_sealed-disk.ensures.reason) told in
+    sealed-reason g.D.Disk.tells old one c.args.lowers c.in-Ok.found.0 c.in-Ok.found.1 c.open_manifest.ensures.quiet m told c.in-Err-layers.fault stops
 
-pub returns-in-Err-Failed-clause-quiet : goal.returns-in-Err-Failed-clause-quiet
-returns-in-Err-Failed-clause-quiet g c = quiet_joined (g.D.Disk.state c.args.disk.now) (g.D.Disk.state c.load_manifest.new.disk) (g.D.Disk.state c.load.new.disk) c.load_manifest.ensures.quiet c.load.ensures.quiet
-
-pub returns-in-Err-NoTop-clause-quiet : goal.returns-in-Err-NoTop-clause-quiet
-returns-in-Err-NoTop-clause-quiet g c = quiet_joined (g.D.Disk.state c.args.disk.now) (g.D.Disk.state c.load_manifest.new.disk) (g.D.Disk.state c.load.new.disk) c.load_manifest.ensures.quiet c.load.ensures.quiet
-
-pub returns-in_default-snapshot_of-clause-quiet : goal.returns-in_default-snapshot_of-clause-quiet
-returns-in_default-snapshot_of-clause-quiet g c = quiet_joined (g.D.Disk.state c.args.disk.now) (g.D.Disk.state c.load_manifest.new.disk) (g.D.Disk.state c.load.new.disk) c.load_manifest.ensures.quiet c.load.ensures.quiet
+pub returns-in-Err-layers-clause-quiet : goal.returns-in-Err-layers-clause-quiet
+returns-in-Err-layers-clause-quiet g c =
+    quiet_joined (g.D.Disk.state c.args.disk) (g.D.Disk.state c.open_manifest.new.disk) (g.D.Disk.state c.read_sealed-disk.result.0) c.open_manifest.ensures.quiet c.read_sealed-disk.ensures.quiet
 
 pub returns-clause-quiet : goal.returns-clause-quiet
-returns-clause-quiet g c = quiet_joined (g.D.Disk.state c.args.disk.now) (g.D.Disk.state c.load_manifest.new.disk) (g.D.Disk.state c.load.new.disk) c.load_manifest.ensures.quiet c.load.ensures.quiet
-
-pub returns-in-Err-NoTop-clause-reason : goal.returns-in-Err-NoTop-clause-reason
-returns-in-Err-NoTop-clause-reason g c told =
-    subst (λ r. IsLoadReason (g.D.Disk.state c.args.disk.now).seen c.args.lowers (why.NoTop 0 r)) (sym c.in-Err-NoTop.reason-is)
-    (top-reason (g.D.Disk.state c.args.disk.now) (g.D.Disk.state c.load_manifest.new.disk) c.get.result c.args.lowers c.as_slice.result.now c.as_slice-2.result.now c.in-Some.bare.exact c.in-Some.bare.sectors c.parent_of-parent.result c.in-Err-NoTop.reason
-    c.load_manifest.ensures.quiet (subst (HasManifest (g.D.Disk.state c.args.disk.now).seen) (sym c.get.ensures) (c.in_ok-manifest.ensures.shows told))
-    c.in-Some.ensures.some.0 c.in-Some.ensures.some.1 c.in-Some.ensures.some.2 c.as_slice.ensures c.in_ok-check_lowers.ensures.ok.0 c.in_ok-check_lowers.ensures.ok.1 c.as_slice-2.ensures
-    c.parent_of-parent.ensures (c.in-Err-NoTop.ensures.reason c.in-Err-NoTop.reason (ap (λ e. Err e) c.in-Err-NoTop.field-0-is) told))
-
-pub returns-clause-stands : goal.returns-clause-stands
-returns-clause-stands g c files are =
-    let shows = c.in-Ok.ensures.shows in
-    loaded g.D.Disk.tells (g.D.Disk.state c.args.disk.now) (g.D.Disk.state c.load_manifest.new.disk) (g.D.Disk.state c.load.new.disk) (g.D.Disk.faults c.load.new.disk)
-    (record { manifest = c.in_ok-manifest.manifest; lowers = c.args.lowers; snapshot = c.in-Ok-snapshot_of.snapshot; top = c.in-Ok.top; steps = 0 })
-    c.in-Some.bare.exact c.in-Some.bare.sectors files c.args.lowers c.as_slice-2.result.now c.parent_of-parent.result c.in_ok-manifest.manifest.body shows.0
-    are c.requires.few (subst (λ l. HaveSize c.in-Some.bare.exact c.in-Some.bare.sectors (heads_in l)) c.as_slice.ensures c.in_ok-check_lowers.ensures.ok.0) (subst AreStackOrNone c.as_slice.ensures c.in_ok-check_lowers.ensures.ok.1)
-    c.as_slice-2.ensures refl refl (subst (λ l. IsSnapshotOf (arc_value c.in-Ok-snapshot_of.snapshot) l []) c.as_slice-3.ensures c.in-Ok-snapshot_of.ensures)
-    c.parent_of-parent.ensures c.load_manifest.ensures.quiet c.load.ensures.quiet
-    c.in_ok-manifest.ensures.mark.0 c.in_ok-manifest.ensures.mark.1 c.in_ok-manifest.ensures.kept c.in_ok-manifest.ensures.bodies c.in_ok-manifest.ensures.shows
-    (subst IsBareBody c.get.ensures c.in-Some.ensures.some.0) (c.in-Some.ensures.some.1 ∙ ap size_said c.get.ensures) (c.in-Some.ensures.some.2 ∙ ap exact_said c.get.ensures)
-    shows.3 shows.1 shows.2 c.in-Ok.ensures.is.0 c.in-Ok.ensures.is.2
-
-pub returns-in_default-snapshot_of-clause-cause : goal.returns-in_default-snapshot_of-clause-cause
-returns-in_default-snapshot_of-clause-cause g c =
-    let count = g.D.Disk.faults in
-    stays count c.args.disk.now c.load.new.disk _
-    (calm_value count c.load_manifest.new.disk c.load.new.disk c.in-Ok.top tops.Failed c.in-Ok.ensures.cause
-    ∙ calm_value count c.args.disk.now c.load_manifest.new.disk _ why.Failed c.in_ok-manifest.ensures.cause)
-    memory_no_fault
+returns-clause-quiet g c =
+    quiet_three (g.D.Disk.state c.args.disk) (g.D.Disk.state c.open_manifest.new.disk) (g.D.Disk.state c.read_sealed-disk.result.0) (g.D.Disk.state c.of_layers-parts.new.disk)
+    c.open_manifest.ensures.quiet c.read_sealed-disk.ensures.quiet c.of_layers-parts.ensures.quiet
 
 pub returns-clause-cause : goal.returns-clause-cause
 returns-clause-cause g c =
     let count = g.D.Disk.faults in
-    stays count c.args.disk.now c.load.new.disk _
-    (calm_value count c.load_manifest.new.disk c.load.new.disk c.in-Ok.top tops.Failed c.in-Ok.ensures.cause
-    ∙ calm_value count c.args.disk.now c.load_manifest.new.disk _ why.Failed c.in_ok-manifest.ensures.cause)
-    (value_no_fault _ _)
+    charges-after count c.args.disk c.read_sealed-disk.result.0 c.of_layers-parts.new.disk _
+    (calm_value count c.open_manifest.new.disk c.read_sealed-disk.result.0 c.in-Ok-layers.layers why.Failed
+    (subst (λ r. Charges count c.open_manifest.new.disk c.read_sealed-disk.result.0 (IsErrOf r why.Failed)) c.in-Ok-layers.is c.read_sealed-disk.ensures.cause)
+    ∙ calm_value count c.args.disk c.open_manifest.new.disk c.in-Ok.found why.Failed c.in-Ok.ensures.cause)
+    c.of_layers-parts.ensures.cause
 
-pub returns-in_err-check_lowers-clause-reason : goal.returns-in_err-check_lowers-clause-reason
-returns-in_err-check_lowers-clause-reason g c =
-    let files = (g.D.Disk.state c.args.disk.now).seen in
-    let fault = c.in_err-check_lowers.field-0.0 in
-    let p = err_from_is_err_and c.from_residual-in_err-check_lowers.result c.from_residual-in_err-check_lowers.ensures.1 in
-    rw (p.1, p.2)
-    (λ told. lowers-reason files c.get.result c.args.lowers c.in-Some.bare.exact c.in-Some.bare.sectors fault c.in-Some.ensures.some.1 c.in-Some.ensures.some.2
-    (subst (HasManifest files) (sym c.get.ensures) (c.in_ok-manifest.ensures.shows told)) c.in-Some.ensures.some.0
-    (subst (λ l. IsLowersReason c.in-Some.bare.exact c.in-Some.bare.sectors l fault) c.as_slice.ensures c.in_err-check_lowers.ensures.reason))
+pub returns-clause-stands : goal.returns-clause-stands
+returns-clause-stands g c =
+    let tells = g.D.Disk.tells in
+    let old = g.D.Disk.state c.args.disk in
+    let one = g.D.Disk.state c.open_manifest.new.disk in
+    let two = g.D.Disk.state c.read_sealed-disk.result.0 in
+    let new = g.D.Disk.state c.of_layers-parts.new.disk in
+    let mark = c.in-Ok.found.0 in
+    let named = c.in-Ok.found.1 in
+    let items = c.in-Ok-layers.layers.items in
+    let below = length c.as_slice-below.result.now in
+    let m = subst (λ (l : List LayerIndex). IsManifest tells old one l mark named) c.as_slice.ensures c.in-Ok.ensures.found in
+    let read = subst (λ r. IfOk r (λ all. (sealed : List LayerIndex) × (all.items ≡ c.into_vec.result.items ++ sealed) × (length sealed ≡ named.count) × AreRead tells one two sealed))
+    c.in-Ok-layers.is c.read_sealed-disk.ensures.found in
+    let cut = cut-both items c.args.lowers read.0 below (read.1 ∙ ap (λ (l : List LayerIndex). l ++ read.0) c.into_vec.ensures) (ap (length {A = LayerIndex}) c.as_slice-below.ensures) in
+    ok-both c.of_layers-parts.result (λ parts. ArePartsRead tells two new named (take below items) (drop below items) parts) (λ parts. parts.manifest ≡ mark)
+    (λ parts. (files : List (List ℕ)) → AreLayersOf files c.args.lowers → IsLoaded old files (with_disk g.D.Disk c.of_layers-parts.new.disk parts))
+    (λ parts found manifest files are.
+    loaded tells old one two new (g.D.Disk.faults c.of_layers-parts.new.disk) named mark c.args.lowers read.0 parts files
+    c.open_manifest.ensures.quiet c.read_sealed-disk.ensures.quiet c.of_layers-parts.ensures.quiet (λ f x left. g.met.D.Disk.told c.of_layers-parts.new.disk f x left)
+    m read.3 read.2
+    (subst (λ (l : List LayerIndex). ArePartsRead tells two new named l read.0 parts) cut.0 (subst (λ (l : List LayerIndex). ArePartsRead tells two new named (take below items) l parts) cut.1 found))
+    manifest are)
+    c.of_layers-parts.ensures.read c.of_layers-parts.ensures.manifest
+
+pub returns-clause-reason : goal.returns-clause-reason
+returns-clause-reason g c =
+    let tells = g.D.Disk.tells in
+    let old = g.D.Disk.state c.args.disk in
+    let one = g.D.Disk.state c.open_manifest.new.disk in
+    let two = g.D.Disk.state c.read_sealed-disk.result.0 in
+    let mark = c.in-Ok.found.0 in
+    let named = c.in-Ok.found.1 in
+    let items = c.in-Ok-layers.layers.items in
+    let below = length c.as_slice-below.result.now in
+    let m = subst (λ (l : List LayerIndex). IsManifest tells old one l mark named) c.as_slice.ensures c.in-Ok.ensures.found in
+    let read = subst (λ r. IfOk r (λ all. (sealed : List LayerIndex) × (all.items ≡ c.into_vec.result.items ++ sealed) × (length sealed ≡ named.count) × AreRead tells one two sealed))
+    c.in-Ok-layers.is c.read_sealed-disk.ensures.found in
+    let cut = cut-both items c.args.lowers read.0 below (read.1 ∙ ap (λ (l : List LayerIndex). l ++ read.0) c.into_vec.ensures) (ap (length {A = LayerIndex}) c.as_slice-below.ensures) in
+    err-all c.of_layers-parts.result (λ fault. IsTrue tells → IsPartsReason two.seen named (take below items) (drop below items) fault)
+    (λ fault. IsTrue tells → IsLoadReason old.seen c.args.lowers fault)
+    (λ fault bad told.
+    parts-reason tells old one c.args.lowers mark named c.open_manifest.ensures.quiet m told two c.read_sealed-disk.ensures.quiet read.0 read.3 read.2 fault
+    (subst (λ (l : List LayerIndex). IsPartsReason two.seen named l read.0 fault) cut.0
+    (subst (λ (l : List LayerIndex). IsPartsReason two.seen named (take below items) l fault) cut.1 (bad told))))
+    c.of_layers-parts.ensures.reason
+
+pub returns-clause-begun : goal.returns-clause-begun
+returns-clause-begun g c =
+    let items = c.in-Ok-layers.layers.items in
+    let below = length c.as_slice-below.result.now in
+    ok-all c.of_layers-parts.result
+    (λ parts. ArePartsRead g.D.Disk.tells (g.D.Disk.state c.read_sealed-disk.result.0) (g.D.Disk.state c.of_layers-parts.new.disk) c.in-Ok.found.1 (take below items) (drop below items) parts)
+    (λ parts. IfSome parts.stack.commit (λ c. c.sealing.done ≡ 0)) (λ parts read. read.commit.begun) c.of_layers-parts.ensures.read

@@ -1,6 +1,0 @@
-use Rattle.std.proofs.Common.{◌≡◌, take}
-use Rattle.image_core.specs.Loading.{heads_in}
-use Rattle.image_core.proofs.loading.heads_of.Given as goal
-
-abbrev pub invariant-loop-layer : goal.invariant-loop-layer
-invariant-loop-layer l = l.heads.items ≡ take l.layer-index (heads_in l.layers)
