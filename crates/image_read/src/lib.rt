@@ -2,10 +2,8 @@
 #![tactic(auto)]
 
 mod headline;
+mod layers;
 mod reader;
 
 pub use headline::headline_law;
 pub use reader::Reader;
-
-#[cfg(test)]
-mod tests;

@@ -43,13 +43,13 @@ module _ (tells : Bool) (lock : Lock Base) (shelf : ℕ) (old new : Place Act) w
   rises r more is = record { later = omega (arith, more); failed = λ _. more; only = λ _. is }
 
   -- an act that is no fault, and nothing, raise no count
-  same_by : (act : Act) → is_fault act ≡ false → Notes (P old) (P new) (act ∷ []) → (P new).faults ≡ (P old).faults
+  pub same_by : (act : Act) → is_fault act ≡ false → Notes (P old) (P new) (act ∷ []) → (P new).faults ≡ (P old).faults
   same_by act other n =
       let one = counts (act ∷ []) n in
       let zero_more : fault_count (entry old.number act ∷ []) ≡ 0 = none-counted old.number act other in
       omega (arith, one, zero_more)
 
-  same_none : Notes (P old) (P new) [] → (P new).faults ≡ (P old).faults
+  pub same_none : Notes (P old) (P new) [] → (P new).faults ≡ (P old).faults
   same_none n = let none = counts [] n in omega (arith, none)
 
   pub change-charges : {T : Type 0} (r : Result T PortFault) (act : Act) → is_fault act ≡ false

@@ -47,12 +47,15 @@ reached-kept seen whole history front begun is =
     let same = ap kept begun.is in
     longer-begins history front seen reaches.0 begun (let far = reaches.1 in omega (arith, whole, grows, same, far))
 
-pub flush-kept : (before : History) (number : ℕ) → AreKept (before ++ entry number Flush ∷ [])
-flush-kept before number =
-    let place = kept-entry before number Flush refl in
-    let long = length-append before (entry number Flush ∷ []) in
-    reached-kept (before ++ entry number Flush ∷ []) (omega (arith, place, long))
+act-kept : (before : History) (number : ℕ) (act : Act) → keeps act ≡ true → AreKept (before ++ entry number act ∷ [])
+act-kept before number act is =
+    let place = kept-entry before number act is in
+    let long = length-append before (entry number act ∷ []) in
+    reached-kept (before ++ entry number act ∷ []) (omega (arith, place, long))
 
--- what a seat has seen that noted a flush last
-pub kept-after : (mid new : Place Act) → new ≡ place mid.lock mid.number (mid.seen ++ entry mid.number Flush ∷ []) false → AreKept new.seen
-kept-after mid new is = subst (λ (s : Place Act). AreKept s.seen) (sym is) (flush-kept mid.seen mid.number)
+pub flush-kept : (before : History) (number : ℕ) → AreKept (before ++ entry number Flush ∷ [])
+flush-kept before number = act-kept before number Flush refl
+
+-- what a seat has seen that noted such an act last
+pub kept-after : (mid new : Place Act) (act : Act) → keeps act ≡ true → new ≡ place mid.lock mid.number (mid.seen ++ entry mid.number act ∷ []) false → AreKept new.seen
+kept-after mid new act keeping is = subst (λ (s : Place Act). AreKept s.seen) (sym is) (act-kept mid.seen mid.number act keeping)

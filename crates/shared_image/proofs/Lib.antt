@@ -3,3 +3,7 @@ pub mod Holding
 pub mod Charged
 pub mod Same
 pub mod Kept
+pub mod Staying
+pub mod Committing
+pub mod CommitViews
+pub mod CommitCharges

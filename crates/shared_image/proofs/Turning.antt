@@ -2,6 +2,7 @@
 use Rattle.std.proofs.Common.{◌≡◌, ℕ, ◌+◌, ◌^◌, ◌<◌, ◌≤◌, Bool, IsTrue, false, List, [], ◌∷◌, ◌++◌, length, refl, sym, ap, ◌∙◌, subst, arith, append_assoc, length-append}
 use Rattle.flat_image.specs.declared.act.Act.{Act}
 use Rattle.flat_image.specs.declared.act.Act.TheVariants.{Read, Fault, Flush}
+use Rattle.flat_image.specs.declared.act.Asked.{Asked}
 use Rattle.flat_image.specs.declared.act.Asked.TheVariants.{Nothing}
 use Rattle.flat_image.specs.declared.base.Base.{Base}
 use Rattle.flat_image.specs.declared.stands.Entry.{Entry}
@@ -59,7 +60,7 @@ module _ (tells : Bool) (lock : Lock Base) (shelf : ℕ) (old mid : Place Act) (
       })
 
   -- the history was not full
-  unworn : (new : Place Act) → new ≡ place mid.lock mid.number mid.seen false → lock.first + length mid.seen < 2 ^ 62 → IsWorn (P new) → ⊥
+  pub unworn : (new : Place Act) → new ≡ place mid.lock mid.number mid.seen false → lock.first + length mid.seen < 2 ^ 62 → IsWorn (P new) → ⊥
   unworn new is room worn =
       let long : length new.seen ≡ length mid.seen = ap (λ (s : Place Act). length s.seen) is in
       omega (arith, long, room, worn)
@@ -89,11 +90,11 @@ module _ (tells : Bool) (lock : Lock Base) (shelf : ℕ) (old mid : Place Act) (
       ∙ ap (λ (l : History). l ++ entry old.number act ∷ []) later.seen.is)
 
   -- a failed step counts
-  pub rose : (new : Place Act) → new ≡ place mid.lock mid.number (mid.seen ++ entry mid.number (Fault Nothing) ∷ []) false → (P old).faults < (P new).faults
-  rose new is =
-      let own : calls_by mid.number (mid.seen ++ entry mid.number (Fault Nothing) ∷ []) ≡ calls_by old.number old.seen ++ entry mid.number (Fault Nothing) ∷ [] =
-      calls_by-own mid.number mid.seen (Fault Nothing) ∙ ap (λ (l : History). l ++ entry mid.number (Fault Nothing) ∷ []) own_same in
-      let faults = ap (λ (l : History). fault_count l) own ∙ fault_count-append (calls_by old.number old.seen) (entry mid.number (Fault Nothing) ∷ []) in
+  pub rose : (new : Place Act) (asked : Asked) → new ≡ place mid.lock mid.number (mid.seen ++ entry mid.number (Fault asked) ∷ []) false → (P old).faults < (P new).faults
+  rose new asked is =
+      let own : calls_by mid.number (mid.seen ++ entry mid.number (Fault asked) ∷ []) ≡ calls_by old.number old.seen ++ entry mid.number (Fault asked) ∷ [] =
+      calls_by-own mid.number mid.seen (Fault asked) ∙ ap (λ (l : History). l ++ entry mid.number (Fault asked) ∷ []) own_same in
+      let faults = ap (λ (l : History). fault_count l) own ∙ fault_count-append (calls_by old.number old.seen) (entry mid.number (Fault asked) ∷ []) in
       subst (λ (s : Place Act). (P old).faults < (P s).faults) (sym is) (omega (arith, faults))
 
   -- one act was noted last, for which or for what was asked there was room
@@ -135,7 +136,7 @@ module _ (tells : Bool) (lock : Lock Base) (shelf : ℕ) (old mid : Place Act) (
   -- a step failed
   pub fault_turn : (new : Place Act) → new ≡ place mid.lock mid.number (mid.seen ++ entry mid.number (Fault Nothing) ∷ []) false → lock.first + length mid.seen < 2 ^ 62
       → ((P old).faults < (P new).faults) × Notes (P old) (P new) (Fault Nothing ∷ [])
-  fault_turn new is room = (rose new is, noted new (Fault Nothing) is room)
+  fault_turn new is room = (rose new Nothing is, noted new (Fault Nothing) is room)
 
   -- a plan that was made
   pub planned_turn : (new : Place Act) (told : Bool) (n : ℕ) (e : Extent) (bytes out : List ℕ) (gaps : List Extent) (s : SnapshotView)
@@ -174,4 +175,4 @@ module _ (tells : Bool) (lock : Lock Base) (shelf : ℕ) (old mid : Place Act) (
   -- a change that failed
   pub failed_turn : (new : Place Act) (act : Act) → new ≡ place mid.lock mid.number (mid.seen ++ entry mid.number (Fault Nothing) ∷ []) false → lock.first + length mid.seen < 2 ^ 62
       → HasRoomFor lock.base mid.seen act → ChangeFails (P old) (P new) act Failed
-  failed_turn new act is room fits = (rose new is, noted_last new (Fault Nothing) act is room fits)
+  failed_turn new act is room fits = (rose new Nothing is, noted_last new (Fault Nothing) act is room fits)

@@ -1,9 +1,9 @@
 -- What stands of a shared image when it is closed.
-use Rattle.std.specs.Prelude.{List, IsTrue}
+use Rattle.std.specs.Prelude.{List, ◌++◌, IsTrue}
 use Rattle.flat_image.specs.declared.act.Act.{Act}
 use Rattle.flat_image.specs.declared.base.Base.{Base}
 use Rattle.flat_image.specs.Entries.{StartsWith}
-use Rattle.flat_image.specs.History.{History}
+use Rattle.flat_image.specs.History.{History, committed}
 use Rattle.flat_image.specs.Left.{Kept}
 use Rattle.turn_lock.specs.Locks.{Lock, Place, IsHistory}
 use Rattle.image_core.specs.Laws.{TellSame, ReadSame}
@@ -26,3 +26,7 @@ pub record IsClosed (lock : Lock Base) (seats : List (Place Act)) (image : Seen)
 -- does so too.
 abbrev pub AreKept : History → Type 0
 AreKept seen = (history front : History) → StartsWith history seen → Kept history front → StartsWith front seen
+
+-- Committed files stay, and only more come.
+abbrev pub StayCommitted : Base → History → History → Type 0
+StayCommitted base history more = StartsWith (committed base (history ++ more)) (committed base history)

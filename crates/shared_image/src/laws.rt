@@ -4,7 +4,7 @@ ghost use Rattle.flat_image.specs.declared.act.Act.TheVariants.{Flush};
 ghost use Rattle.flat_image.specs.Entries.{entry};
 ghost use Rattle.flat_image.specs.History.{History};
 ghost use Rattle.image_core.specs.Seen.{seen, StandsFor};
-ghost use Rattle.shared_image.specs.Closed.{AreSame, AreKept};
+ghost use Rattle.shared_image.specs.Closed.{AreSame, AreKept, StayCommitted};
 
 use block_disk::Disk;
 use image_core::Image;
@@ -22,4 +22,10 @@ pub fn one_thread_law<D: Disk, E: Disk>(closed: &Image<D>, run: &Image<E>)
 /// Where a flush stands in a history, whoever's it is, all before it is kept.
 pub fn acknowledged_law()
     ensures { (before : History) (number : ℕ) → AreKept (before ++ entry number Flush ∷ []) }
+{}
+
+/// Committed files stay as they are, whatever comes behind: a snapshot of them holds in every later
+/// history.
+pub fn committed_law()
+    ensures { (base : Base) (history more : History) → StayCommitted base history more }
 {}

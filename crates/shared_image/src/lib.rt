@@ -2,11 +2,11 @@
 //! one history.
 #![tactic(auto)]
 
+mod commits;
+mod faults;
 mod laws;
 mod shared;
 
-pub use laws::{acknowledged_law, one_thread_law};
+pub use faults::{SharedCopyFault, SharedFreezeFault, SharedSealFault};
+pub use laws::{acknowledged_law, committed_law, one_thread_law};
 pub use shared::{ImageSeat, SharedImage};
-
-#[cfg(test)]
-mod tests;

@@ -26,7 +26,7 @@ pub type ImageSeat<D> = Seat<Image<D>>;
 /// step of the image, and gives the turn back before it returns.
 #[derive(Drop)]
 pub struct SharedImage<D: Disk> {
-    turn: Turn<Image<D>>,
+    pub(crate) turn: Turn<Image<D>>,
     sectors: u64,
     first: u64,
 }
@@ -44,8 +44,8 @@ impl<D: Disk> Model for SharedImage<D> {
         × (s.first ≡ s.turn.first) × (s.first ≤ 2 ^ 62) };
 }
 
-// A step that failed.
-struct OfFault;
+// A step that failed and has no uuid.
+pub(crate) struct OfFault;
 
 impl Named<Act> for OfFault {
     ghost use Rattle.flat_image.specs.declared.act.Act.TheVariants.{Fault};

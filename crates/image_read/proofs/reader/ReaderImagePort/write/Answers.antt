@@ -1,20 +1,4 @@
-use Rattle.std.proofs.Common.{◌&&◌, ◌∙◌, is_some}
-use Rattle.image_read.proofs.Filling.{change-counted}
 use Rattle.image_read.proofs.reader.ReaderImagePort.write.Goals as goal
 
 pub returns-clause-write : goal.returns-clause-write
-returns-clause-write g c = rw c.part-extent.ensures.at at (c.write.ensures.write (g.D.Disk.tells && is_some (g.S.Shelf.files c.args.self.now.shelf)) (g.S.Shelf.faults c.args.self.now.shelf))
-
-pub returns-clause-worn : goal.returns-clause-worn
-returns-clause-worn g c = c.write.ensures.worn (g.D.Disk.tells && is_some (g.S.Shelf.files c.args.self.now.shelf)) (g.S.Shelf.faults c.args.self.now.shelf)
-
-pub invariant_of-self : goal.invariant_of-self
-invariant_of-self g c = record {
-  seat_is = record { lock_is = c.write.ensures.same.lock ∙ c.args.self.now.seat_is.lock_is; idle = c.write.ensures.same.idle };
-  count_is = c.args.self.now.count_is;
-  files_are = c.args.self.now.files_are;
-  counted = change-counted c.write.result _ _ _ (c.write.ensures.write (g.D.Disk.tells && is_some (g.S.Shelf.files c.args.self.now.shelf)) (g.S.Shelf.faults c.args.self.now.shelf)) c.args.self.now.counted;
-}
-
-pub returns-clause-cause : goal.returns-clause-cause
-returns-clause-cause g c = c.write.ensures.cause (g.D.Disk.tells && is_some (g.S.Shelf.files c.args.self.now.shelf)) (g.S.Shelf.faults c.args.self.now.shelf)
+returns-clause-write g c = rw c.part-extent.ensures.at at c.write.ensures.write

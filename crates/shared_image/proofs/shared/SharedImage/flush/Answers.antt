@@ -1,4 +1,5 @@
-use Rattle.std.proofs.Common.{Ok}
+use Rattle.std.proofs.Common.{Ok, refl}
+use Rattle.flat_image.specs.declared.act.Act.TheVariants.{Flush}
 use Rattle.shared_image.proofs.Turning.{worn_turn, flushed_last, fault_turn}
 use Rattle.shared_image.proofs.Charged.{flush-charges}
 use Rattle.shared_image.proofs.Kept.{kept-after}
@@ -22,4 +23,10 @@ returns-in-Ok-flush-clause-cause g c tells shelf =
 
 pub returns-in-Ok-flush-clause-kept : goal.returns-in-Ok-flush-clause-kept
 returns-in-Ok-flush-clause-kept g c =
-    kept-after c.hold.new.seat c.note.new.seat c.note.ensures
+    kept-after c.hold.new.seat c.note.new.seat Flush refl c.note.ensures
+
+pub note-requires-clause-stands : goal.note-requires-clause-stands
+note-requires-clause-stands g c = c.in-Ok-flush.ensures.goes.stands c.self.inside.turn.base c.hold.new.seat.seen c.hold.new.seat.number c.in-Ok.ensures.ok.1
+
+pub note-requires-in-Err-flush-clause-stands : goal.note-requires-in-Err-flush-clause-stands
+note-requires-in-Err-flush-clause-stands g c = c.in-Err-flush.ensures.goes.stands c.self.inside.turn.base c.hold.new.seat.seen c.hold.new.seat.number c.in-Ok.ensures.ok.1

@@ -51,3 +51,6 @@ returns-in-Err-Failed-clause-write g c tells shelf =
     let s = c.standing_law.ensures c.self.inside.turn.base c.hold.new.seat.seen c.in-Ok.ensures.ok.1 in
     rw (← c.self.view_is) (failed_turn tells c.self.inside.turn shelf c.args.seat.now c.hold.new.seat c.in-Ok.ensures.later c.note-in-Err-Failed.new.seat g.N.Named.it c.note-in-Err-Failed.ensures c.in-Ok.ensures.ok.2
     (rw c.requires.act (write_fits c.self.inside.turn.base c.hold.new.seat.seen _ _ c.args.extent.at c.args.extent.count c.args.bytes.now c.requires.size s.view.rows s.view.filled (λ over. absurd (let never = c.in-Err-Failed.ensures.full.0 over in cc)))))
+
+pub note-requires-clause-stands : goal.note-requires-clause-stands
+note-requires-clause-stands g c = rw c.requires.act (c.in-Ok-write.ensures.goes.stands c.self.inside.turn.base c.hold.new.seat.seen c.hold.new.seat.number c.in-Ok.ensures.ok.1)

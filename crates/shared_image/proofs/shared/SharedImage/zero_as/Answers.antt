@@ -41,3 +41,6 @@ returns-in-Err-Memory-clause-zero g c tells shelf =
 pub give-requires-in-Err-Memory-clause-stands : goal.give-requires-in-Err-Memory-clause-stands
 give-requires-in-Err-Memory-clause-stands g c =
     rw c.in-Err-Memory.field-0-is at (c.in-Err-Memory.ensures.goes.stands c.self.inside.turn.base c.hold.new.seat.seen c.hold.new.seat.number c.in-Ok.ensures.ok.1)
+
+pub note-requires-clause-stands : goal.note-requires-clause-stands
+note-requires-clause-stands g c = rw c.requires.act (c.in-Ok-zero.ensures.goes.stands c.self.inside.turn.base c.hold.new.seat.seen c.hold.new.seat.number c.in-Ok.ensures.ok.1)

@@ -1,0 +1,23 @@
+use Rattle.std.proofs.Common.{◌&&◌, ◌∙◌, false, is_some}
+use Rattle.image_read.proofs.Filling.{flush-later, later-counted, later-there}
+use Rattle.image_read.proofs.layers.Layers.flush.Goals as goal
+
+pub returns-clause-flush : goal.returns-clause-flush
+returns-clause-flush g c = c.flush.ensures.flush (g.D.Disk.tells && is_some (g.S.Shelf.files c.args.self.now.shelf)) (g.S.Shelf.faults c.args.self.now.shelf)
+
+pub returns-clause-cause : goal.returns-clause-cause
+returns-clause-cause g c = c.flush.ensures.cause (g.D.Disk.tells && is_some (g.S.Shelf.files c.args.self.now.shelf)) (g.S.Shelf.faults c.args.self.now.shelf)
+
+pub returns-clause-worn : goal.returns-clause-worn
+returns-clause-worn g c = c.flush.ensures.worn (g.D.Disk.tells && is_some (g.S.Shelf.files c.args.self.now.shelf)) (g.S.Shelf.faults c.args.self.now.shelf)
+
+pub invariant_of-self : goal.invariant_of-self
+invariant_of-self g c =
+    let later = flush-later c.flush.result _ _ false (c.flush.ensures.flush (g.D.Disk.tells && is_some (g.S.Shelf.files c.args.self.now.shelf)) (g.S.Shelf.faults c.args.self.now.shelf)) in
+    record {
+      seat_is = record { lock_is = c.flush.ensures.same.lock ∙ c.args.self.now.seat_is.lock_is; idle = c.flush.ensures.same.idle };
+      count_is = c.args.self.now.count_is;
+      files_are = c.args.self.now.files_are;
+      counted = later-counted _ _ later c.args.self.now.counted;
+      still_there = later-there _ _ c.args.self.now.done.value later c.args.self.now.still_there;
+    }
