@@ -58,3 +58,7 @@ unfed command before now disk disk_now (Err x) still cause is =
     let same : x ≡ Other refused.SourceFault = cc in
     let rose = (subst (λ (y : ImageRefusal). CommandCause command before now disk disk_now y) same cause).1 in
     omega (arith, still, rose)
+
+pub ok-from : {T E : Type 0} (r : Result T E) (P Q : Type 0) → (P → Q) → OnOk r P → OnOk r Q
+ok-from (Ok value) P Q f p = f p
+ok-from (Err fault) P Q f p = tt

@@ -1,12 +1,13 @@
 -- Where nothing stands in the way of a command on an image, only want of memory refuses it.
-use Rattle.std.proofs.Common.{◌≡◌, ◌≢◌, ℕ, ◌+◌, ◌%◌, ◌<◌, ◌≤◌, IsTrue, List, [], ◌∷◌, length, map, refl, sym, ap, ◌∙◌, subst, arith, inl, inr}
-use Rattle.std.specs.Prelude.{Option, Some, None, IfSome, ◌⊎◌}
+use Rattle.std.proofs.Common.{◌≡◌, ◌≢◌, ℕ, ◌+◌, ◌%◌, ◌<◌, ◌≤◌, IsTrue, List, [], ◌∷◌, ◌++◌, length, map, refl, sym, ap, ◌∙◌, subst, arith, inl, inr}
+use Rattle.std.specs.Prelude.{Option, Some, None, IfSome, Contains}
 use Rattle.block_disk.specs.DiskState.{Files}
 use Rattle.lsmt_header.specs.declared.head.Head.{Head}
 use Rattle.flat_image.specs.declared.act.Act.{Act}
 use Rattle.flat_image.specs.declared.act.Act.TheVariants as act
 use Rattle.flat_image.specs.declared.base.Base.{Base}
 use Rattle.flat_image.specs.Base.{pending_of}
+use Rattle.flat_image.specs.LayerReading.{uuid_in}
 use Rattle.flat_image.specs.Sectors.{sector_count}
 use Rattle.flat_image.specs.History.{IsOver, rows_taken, sectors_taken}
 use Rattle.flat_image.specs.Stacks.{uppermost, Legal}
@@ -23,8 +24,8 @@ use Rattle.layer_commands.specs.declared.refusal.Refusal.TheVariants as refused
 use Rattle.layer_commands.specs.Prints.{LayerSheet, AreLayers, heads_of, sectors_of}
 use Rattle.layer_commands.specs.Ports.{Ports}
 use Rattle.layer_commands.specs.Causes.{StopsAt}
-use Rattle.image_commands.specs.Images.{DiskPort, LiesOver, StartsAt, acts_of, kept_change, reach_of}
-use Rattle.image_commands.specs.ImageCauses.{IsCreate, HaveOtherSize, HoldsNone, GoesPast, IsFull, HasCommit, IsAsLarge, ImageCause, CommandCause}
+use Rattle.image_commands.specs.Images.{DiskPort, LiesOver, StartsAt, acts_of, commit_acts, kept_change, reach_of}
+use Rattle.image_commands.specs.ImageCauses.{IsCreate, HaveOtherSize, HoldsNone, GoesPast, IsFull, HasCommit, HasMostLayers, HasLayerOf, IsAsLarge, ImageCause, CommandCause}
 use Rattle.image_commands.specs.declared.refusal.ImageRefusal.{ImageRefusal}
 use Rattle.image_commands.specs.declared.refusal.ImageRefusal.TheVariants.{Load, Other}
 use Rattle.image_commands.specs.Clear.{HaveAskedSize, IsOpen, IsReady, IsClear}
@@ -56,17 +57,44 @@ module _ (command : Command) (files : List (List ℕ)) (disk : DiskPort) (bytes 
   not-past : other.sectors < reach_of command bytes → ⊥
   not-past past = let size = ap (λ (b : Base). b.sectors) same-base in let within = ready.within in omega (arith, past, size, within)
 
-  not-full : (change : Act) → acts_of command bytes ≡ kept_change change → IsOver (other.rows + rows_taken change) (other.filled + sectors_taken change) → ⊥
+  not-full : (change : Act) → acts_of command bytes (pending_of other.frozen) ≡ kept_change change → IsOver (other.rows + rows_taken change) (other.filled + sectors_taken change) → ⊥
   not-full change asked full =
-      ready.room change asked
+      ready.room change (ap (λ (b : Base). acts_of command bytes (pending_of b.frozen)) same-base ∙ asked)
       (subst (λ (a : ℕ). IsOver (a + rows_taken change) (ready.base.filled + sectors_taken change)) (sym (ap (λ (b : Base). b.rows) same-base))
       (subst (λ (b : ℕ). IsOver (other.rows + rows_taken change) (b + sectors_taken change)) (sym (ap (λ (b : Base). b.filled) same-base)) full))
 
-  not-busy : (uuid : List ℕ) → pending_of other.frozen ≡ Some uuid → ⊥
-  not-busy uuid pending = let free : pending_of other.frozen ≡ None = sym (ap (λ (b : Base). pending_of b.frozen) same-base) ∙ ap pending_of ready.none_frozen in cc
+  same-pending : pending_of ready.base.frozen ≡ pending_of other.frozen
+  same-pending = ap (λ (b : Base). pending_of b.frozen) same-base
+
+  same-layers : ready.base.lowers ++ ready.base.done ≡ other.lowers ++ other.done
+  same-layers = ap (λ (b : Base). b.lowers ++ b.done) same-base
+
+  not-held : (sectors : ℕ) → command ≡ Grow sectors → (uuid : List ℕ) → pending_of other.frozen ≡ Some uuid → ⊥
+  not-held sectors grows uuid pending = let free : pending_of other.frozen ≡ None = sym same-pending ∙ (ready.larger sectors grows).none in cc
+
+  not-busy : (own : List ℕ) → command ≡ Commit own → (uuid : List ℕ) → uuid ≢ own → pending_of other.frozen ≡ Some uuid → ⊥
+  not-busy own commits uuid unlike pending =
+      elim (ready.free own commits) [
+        | inl is ↦ (let e : Some uuid ≡ Some own = sym pending ∙ (sym same-pending ∙ is) in unlike (cc))
+        | inr free ↦ (let none : pending_of other.frozen ≡ None = sym same-pending ∙ free.0 in cc)
+      ]
+
+  not-many : (own : List ℕ) → command ≡ Commit own → pending_of other.frozen ≡ None → 255 ≤ length (other.lowers ++ other.done) → ⊥
+  not-many own commits none many =
+      elim (ready.free own commits) [
+        | inl is ↦ (let e : pending_of other.frozen ≡ Some own = sym same-pending ∙ is in cc)
+        | inr free ↦ (let few = free.1 in let long = ap (λ (l : List (List ℕ)). length l) same-layers in omega (arith, few, long, many))
+      ]
+
+  not-twice : (own : List ℕ) → command ≡ Commit own → pending_of other.frozen ≡ None → Contains (map uuid_in (other.lowers ++ other.done)) own → ⊥
+  not-twice own commits none twice =
+      elim (ready.free own commits) [
+        | inl is ↦ (let e : pending_of other.frozen ≡ Some own = sym same-pending ∙ is in cc)
+        | inr free ↦ free.2 (subst (λ (l : List (List ℕ)). Contains (map uuid_in l) own) (sym same-layers) twice)
+      ]
 
   not-as_large : (sectors : ℕ) → command ≡ Grow sectors → sectors ≤ other.sectors → ⊥
-  not-as_large sectors grows within = let size = ap (λ (b : Base). b.sectors) same-base in let larger = ready.larger sectors grows in omega (arith, size, larger, within)
+  not-as_large sectors grows within = let size = ap (λ (b : Base). b.sectors) same-base in let larger = (ready.larger sectors grows).more in omega (arith, size, larger, within)
 
 -- the bytes of a write are those that the source has
 same-bytes : (left : Option (List ℕ)) (bytes other : List ℕ) → left ≡ Some bytes → IfSome left (λ all. other ≡ all) → other ≡ bytes
@@ -87,10 +115,15 @@ past-clear (Flatten stdin) before now disk disk_now clear past = clear.ready
 past-clear (Info number) before now disk disk_now clear past = clear.ready
 past-clear Stack before now disk disk_now clear past = clear.ready
 past-clear (Grow sectors) before now disk disk_now clear past = let p = past.past in omega (arith, p)
-past-clear (Commit uuid) before now disk disk_now clear past = clear.ready
-past-clear Sweep before now disk disk_now clear past = clear.ready
+past-clear (Commit uuid) before now disk disk_now clear past = let p = past.past in omega (arith, p)
+past-clear Sweep before now disk disk_now clear past = let p = past.past in omega (arith, p)
 past-clear (Make seed acts) before now disk disk_now clear past = clear.ready
 past-clear (Export connections) before now disk disk_now clear past = clear.ready
+
+-- a commit is no change with a flush behind it
+no-commit : (uuid : List ℕ) (pending : Option (List ℕ)) (change : Act) → commit_acts uuid pending ≡ kept_change change → ⊥
+no-commit uuid None change e = cc
+no-commit uuid (Some own) change e = cc
 
 full-clear : (command : Command) (before now : Ports) (disk disk_now : DiskPort) (rows sectors : ℕ) → IsClear command before now disk disk_now → IsFull command before disk disk_now rows sectors → ⊥
 full-clear (Create asked) before now disk disk_now rows sectors clear full = let e : [] ≡ kept_change full.change = full.asked in cc
@@ -101,21 +134,34 @@ full-clear (Write at) before now disk disk_now rows sectors clear full =
     let ready = clear.ready in
     let same : full.bytes ≡ ready.0 = same-bytes before.left ready.0 full.bytes ready.1 full.opens.takes.0 in
     not-full (Write at) clear.files disk ready.0 ready.3 before.files before.count clear.told clear.tells full.base full.opens.over full.opens.starts.shows full.change
-    (subst (λ (b : List ℕ). acts_of (Write at) b ≡ kept_change full.change) same full.asked) full.over
+    (subst (λ (b : List ℕ). acts_of (Write at) b (pending_of full.base.frozen) ≡ kept_change full.change) same full.asked) full.over
 full-clear (Flatten stdin) before now disk disk_now rows sectors clear full = clear.ready
 full-clear (Info number) before now disk disk_now rows sectors clear full = clear.ready
 full-clear Stack before now disk disk_now rows sectors clear full = clear.ready
 full-clear (Grow size) before now disk disk_now rows sectors clear full = let e : act.Grow size ∷ [] ≡ kept_change full.change = full.asked in cc
-full-clear (Commit uuid) before now disk disk_now rows sectors clear full = clear.ready
-full-clear Sweep before now disk disk_now rows sectors clear full = clear.ready
+full-clear (Commit uuid) before now disk disk_now rows sectors clear full = no-commit uuid (pending_of full.base.frozen) full.change full.asked
+full-clear Sweep before now disk disk_now rows sectors clear full = let e : [] ≡ kept_change full.change = full.asked in cc
 full-clear (Make seed acts) before now disk disk_now rows sectors clear full = clear.ready
 full-clear (Export connections) before now disk disk_now rows sectors clear full = clear.ready
 
 busy-clear : (command : Command) (before now : Ports) (disk disk_now : DiskPort) (uuid : List ℕ) → IsClear command before now disk disk_now → HasCommit command before disk uuid → ⊥
-busy-clear command before now disk disk_now uuid clear busy =
-    let ready = subst (λ (c : Command). IsReady c before.left clear.files clear.layers disk) busy.grows clear.ready in
-    let starts = subst (λ (c : Command). StartsAt c before.count disk busy.base) busy.grows busy.opens.starts in
-    not-busy (Grow busy.sectors) clear.files disk [] ready before.files before.count clear.told clear.tells busy.base busy.opens.over starts.shows uuid busy.pending
+busy-clear (Grow sectors) before now disk disk_now uuid clear busy =
+    not-held (Grow sectors) clear.files disk [] clear.ready before.files before.count clear.told clear.tells busy.base busy.over busy.found.shows sectors refl uuid busy.pending
+busy-clear (Commit own) before now disk disk_now uuid clear busy =
+    not-busy (Commit own) clear.files disk [] clear.ready before.files before.count clear.told clear.tells busy.base busy.over busy.found.shows own refl uuid busy.stops busy.pending
+busy-clear other before now disk disk_now uuid clear busy = absurd busy.stops
+
+many-clear : (command : Command) (before now : Ports) (disk disk_now : DiskPort) → IsClear command before now disk disk_now → HasMostLayers command before disk → ⊥
+many-clear command before now disk disk_now clear most =
+    let ready = subst (λ (c : Command). IsReady c before.left clear.files clear.layers disk) most.commits clear.ready in
+    let starts = subst (λ (c : Command). StartsAt c before.count disk most.base) most.commits most.opens.starts in
+    not-many (Commit most.uuid) clear.files disk [] ready before.files before.count clear.told clear.tells most.base most.opens.over starts.0.shows most.uuid refl most.free most.many
+
+twice-clear : (command : Command) (before now : Ports) (disk disk_now : DiskPort) → IsClear command before now disk disk_now → HasLayerOf command before disk → ⊥
+twice-clear command before now disk disk_now clear has =
+    let ready = subst (λ (c : Command). IsReady c before.left clear.files clear.layers disk) has.commits clear.ready in
+    let starts = subst (λ (c : Command). StartsAt c before.count disk has.base) has.commits has.opens.starts in
+    not-twice (Commit has.uuid) clear.files disk [] ready before.files before.count clear.told clear.tells has.base has.opens.over starts.0.shows has.uuid refl has.free has.twice
 
 large-clear : (command : Command) (before now : Ports) (disk disk_now : DiskPort) (sectors : ℕ) → IsClear command before now disk disk_now → IsAsLarge command before disk sectors → ⊥
 large-clear command before now disk disk_now sectors clear large =
@@ -133,8 +179,8 @@ opened-by (Flatten stdin) left files layers disk other ready = absurd ready
 opened-by (Info number) left files layers disk other ready = absurd ready
 opened-by Stack left files layers disk other ready = absurd ready
 opened-by (Grow sectors) left files layers disk other ready = ([], ready)
-opened-by (Commit uuid) left files layers disk other ready = absurd ready
-opened-by Sweep left files layers disk other ready = absurd ready
+opened-by (Commit uuid) left files layers disk other ready = ([], ready)
+opened-by Sweep left files layers disk other ready = ([], ready)
 opened-by (Make seed acts) left files layers disk other ready = absurd ready
 opened-by (Export connections) left files layers disk other ready = absurd ready
 
@@ -142,7 +188,7 @@ load-clear : (command : Command) (before now : Ports) (disk disk_now : DiskPort)
 load-clear command before now disk disk_now fault clear other none =
     let ready = (opened-by command before.left clear.files clear.layers disk other clear.ready).1 in
     let are : AreLayersOf clear.files none.layers = IfSome-at before.files (λ files. AreLayersOf files none.layers) clear.files clear.told none.read in
-    elim (reopens disk.state.seen ready.base none.layers fault ready.shows ready.unworn ready.none_done ready.none_frozen
+    elim (reopens disk.state.seen ready.base none.layers fault ready.shows ready.unworn
     (subst (λ (l : List (List ℕ)). AreLayersOf l none.layers) (sym ready.over) are) (none.reason clear.tells)) [
       | inl memory ↦ none.of_image.1 memory
       | inr failed ↦ none.of_image.0 failed
@@ -206,6 +252,8 @@ clear-memory command before now disk disk_now refused.OutOfRange counted clear c
 clear-memory command before now disk disk_now (refused.Full rows sectors) counted clear cause = absurd (full-clear command before now disk disk_now rows sectors clear cause.0)
 clear-memory command before now disk disk_now (refused.Busy uuid) counted clear cause = absurd (busy-clear command before now disk disk_now uuid clear cause.0)
 clear-memory command before now disk disk_now (refused.NotLarger sectors) counted clear cause = absurd (large-clear command before now disk disk_now sectors clear cause.0)
+clear-memory command before now disk disk_now refused.TooManyLayers counted clear cause = absurd (many-clear command before now disk disk_now clear cause.0)
+clear-memory command before now disk disk_now refused.UuidTwice counted clear cause = absurd (twice-clear command before now disk disk_now clear cause.0)
 clear-memory command before now disk disk_now other counted clear cause = absurd cause
 
 pub clear-command : (command : Command) (before now : Ports) (disk disk_now : DiskPort) (refusal : ImageRefusal) → IfSome before.files (λ files. length files ≡ before.count)

@@ -114,3 +114,5 @@ cause-after old mid new shelf shelf_mid shelf_now sink sink_mid sink_now refused
 cause-after old mid new shelf shelf_mid shelf_now sink sink_mid sink_now (refused.Full rows sectors) adds later shelf_later sink_later cause = absurd cause
 cause-after old mid new shelf shelf_mid shelf_now sink sink_mid sink_now (refused.Busy uuid) adds later shelf_later sink_later cause = absurd cause
 cause-after old mid new shelf shelf_mid shelf_now sink sink_mid sink_now (refused.NotLarger sectors) adds later shelf_later sink_later cause = absurd cause
+cause-after old mid new shelf shelf_mid shelf_now sink sink_mid sink_now refused.TooManyLayers adds later shelf_later sink_later cause = absurd cause
+cause-after old mid new shelf shelf_mid shelf_now sink sink_mid sink_now refused.UuidTwice adds later shelf_later sink_later cause = absurd cause

@@ -1,6 +1,6 @@
 -- A grow of an image, and the line that tells of it.
-use Rattle.std.proofs.Common.{◌≡◌, ℕ, ◌<◌, ◌≤◌, Bool, IsTrue, List, [], ◌∷◌, ◌++◌, refl, sym, ap, ◌∙◌, subst, arith, inl, inr}
-use Rattle.std.specs.Prelude.{Option, Some, None, Result, Ok, Err, OnOk, OnErr, IfErr}
+use Rattle.std.proofs.Common.{◌≡◌, ℕ, ◌<◌, ◌≤◌, Bool, IsTrue, List, [], ◌∷◌, refl, sym, ap, ◌∙◌, subst, arith, inr}
+use Rattle.std.specs.Prelude.{Option, Result, Ok, Err, OnOk, OnErr, IfErr}
 use Rattle.std.specs.Result.{IsErrOf}
 use Rattle.std.specs.Io.KnownBytes.{Appends}
 use Rattle.std.proofs.KnownBytes.{Keeps-refl}
@@ -9,20 +9,15 @@ use Rattle.byte_ports.proofs.Chains.{AppendsFront-none}
 use Rattle.block_disk.specs.DiskState.{DiskState, Leaves}
 use Rattle.block_disk.specs.Claims.{Quiet}
 use Rattle.top_writer.proofs.QuietLaws.{quiet_joined}
-use Rattle.flat_image.specs.declared.act.Act.{Act}
 use Rattle.flat_image.specs.declared.act.Act.TheVariants.{Grow, Fault}
 use Rattle.flat_image.specs.declared.act.Asked.TheVariants.{Sectors}
 use Rattle.flat_image.specs.declared.base.Base.{Base}
-use Rattle.flat_image.specs.Base.{pending_of}
-use Rattle.flat_image.specs.Entries.{entry}
-use Rattle.flat_image.specs.History.{History}
 use Rattle.image_core.specs.declared.growing.GrowFault.{GrowFault}
 use Rattle.image_core.specs.declared.growing.GrowFault.TheVariants.{Busy, NotLarger, Failed}
 use Rattle.image_core.specs.declared.parts.Parts.{Parts}
 use Rattle.image_core.specs.Growing.{noted_grow, pending_in, IsRefusedGrow}
 use Rattle.image_core.specs.Parts.{parts_view}
 use Rattle.image_core.specs.Seen.{Seen, StandsFor, Goes}
-use Rattle.tool_setup.specs.declared.command.Command.{Command}
 use Rattle.tool_setup.specs.declared.command.Command.TheVariants as command
 use Rattle.layer_commands.specs.declared.refusal.Refusal.{Refusal}
 use Rattle.layer_commands.specs.declared.refusal.Refusal.TheVariants as refused
@@ -30,12 +25,12 @@ use Rattle.layer_commands.specs.Ports.{Ports}
 use Rattle.image_commands.specs.ImageReports.{grown_line}
 use Rattle.image_commands.specs.Images.{DiskPort, Opens, Does, entries}
 use Rattle.image_commands.specs.ImageCauses.{ImageCause}
-use Rattle.image_commands.specs.ImageSteps.{port_of, size_of, Adds, fault_of, GrowCause, GrowTold, grow_refused_as}
+use Rattle.image_commands.specs.ImageSteps.{port_of, Adds, fault_of, GrowCause, GrowTold, grow_refused_as}
 use Rattle.image_commands.proofs.Answered.{ok-both}
 use Rattle.image_commands.proofs.WithoutReads.{shows-grown}
 use Rattle.image_commands.proofs.ImageAdds.{adds-none, adds-act}
 use Rattle.image_commands.proofs.ImageLaws.{pending-is, size-is}
-use Rattle.image_commands.proofs.TellLaws.{acts-do, acts-began, none-begun, all-begun, fault-begun, same-acts}
+use Rattle.image_commands.proofs.TellLaws.{acts-do, acts-began, none-begun, all-begun, fault-begun}
 
 abbrev refuses : GrowFault → Result (Unit {0}) GrowFault
 refuses why = Err why
@@ -78,7 +73,7 @@ module _ (sectors : ℕ) (before now : Ports) (disk : DiskPort) (old new : Seen)
       → OnOk r (Appends before.written now.written (grown_line sectors)) → OnOk r (Does (command.Grow sectors) before now disk (port_of new))
   grow-done r stay adds written =
       ok-both r (Adds (entries (Grow sectors ∷ [])) old new) (Appends before.written now.written (grown_line sectors)) (Does (command.Grow sectors) before now disk (port_of new))
-      (acts-do (command.Grow sectors) [] (grown_line sectors) (Grow sectors ∷ []) before now disk old new base refl opens (omega arith) stands refl (λ files. shows-grown base sectors files) stay) adds written
+      (acts-do (command.Grow sectors) [] (grown_line sectors) (Grow sectors ∷ []) before now disk old new base refl opens (omega arith) stands refl (λ files. shows-grown base sectors files) stay tt) adds written
 
   refused-cause : (sink : ℕ) → Quiet disk.state old.state → disk.faults ≤ old.faults → before.sink_faults ≤ sink → (refusal : Refusal)
       → GrowTold sectors (grown_line sectors) old new sink now.sink_faults before.written now.written refusal → ImageCause (command.Grow sectors) before now disk (port_of new) refusal
@@ -104,11 +99,11 @@ module _ (sectors : ℕ) (before now : Ports) (disk : DiskPort) (old new : Seen)
         silent = inr keeps;
         stands = inr (inr (
             acts-began (command.Grow sectors) [] (grown_line sectors) (Grow sectors ∷ []) before now disk old new base refl opens (omega arith) stands refl (fault_of (Sectors sectors))
-            (fault-begun (command.Grow sectors) [] (grown_line sectors) (Grow sectors ∷ []) before now disk old new base refl opens (omega arith) stands refl [] (record { rest = entries (Grow sectors ∷ []); is = refl }) rose) adds
+            (fault-begun (command.Grow sectors) [] (grown_line sectors) (Grow sectors ∷ []) before now disk old new base refl opens (omega arith) stands refl (Sectors sectors) refl [] (record { rest = entries (Grow sectors ∷ []); is = refl }) rose) adds
             (AppendsFront-none before.written now.written (grown_line sectors) keeps)));
       }
   refused-cause sink quiet later sink_later (refused.Busy uuid) (cause, keeps) = (
-    record { sectors = sectors; grows = refl; base = base; opens = opens; pending = sym (pending-is old base stands) ∙ cause.0 },
+    record { stops = tt; base = base; over = opens.over; found = opens.starts; pending = sym (pending-is old base stands) ∙ cause.0 },
     record { sink = keeps; same = quiet_joined disk.state old.state new.state quiet cause.1.same },
   )
   refused-cause sink quiet later sink_later (refused.NotLarger n) (cause, keeps) =

@@ -26,13 +26,13 @@ use Rattle.image_commands.specs.ImageSteps.{size_of, port_of, Adds, AreSectors}
 use Rattle.layer_commands.proofs.Pieces.{IfSome-at, IfSome-each}
 use Rattle.image_commands.proofs.WithoutReads.{shows-without}
 
-stands-for : (image : Seen) (base : Base) (history : History) → StandsFor image base history
+pub stands-for : (image : Seen) (base : Base) (history : History) → StandsFor image base history
     → ViewStands image.tells image.state image.faults (parts_view image.parts) base history
 stands-for image base history stands =
     keeps-stands image.tells image.state image.faults (parts_view image.parts) base history (parts-keep image base history stands)
 
 -- what is frozen has the uuid of the commit in progress
-same-pending : (epoch : ℕ) (frozen : Option Frozen) (commit : Option CommitView) → IsCommitOf epoch frozen commit → option_map (λ c. c.uuid) commit ≡ pending_of frozen
+pub same-pending : (epoch : ℕ) (frozen : Option Frozen) (commit : Option CommitView) → IsCommitOf epoch frozen commit → option_map (λ c. c.uuid) commit ≡ pending_of frozen
 same-pending epoch None None is = refl
 same-pending epoch None (Some commit) is = absurd is
 same-pending epoch (Some frozen) None is = absurd is
@@ -65,10 +65,10 @@ module _ (image : Seen) (base : Base) (stands : StandsFor image base []) where
 
   pub lowers-told : (told : Option (List (List ℕ))) (count : ℕ) → LiesOver told count base → (files : List (List ℕ)) → told ≡ Some files → AreLayersOf files (parts_view image.parts).lowers
   lowers-told told count over files e =
-      subst (λ (l : List (List ℕ)). AreLayersOf l (parts_view image.parts).lowers) (IfSome-at told (λ files. base.lowers ≡ files) files e over.lowers) stands.fits.lowers
+      subst (λ (l : List (List ℕ)). AreLayersOf l (parts_view image.parts).lowers) (IfSome-at told (λ files. base.lowers ≡ files) files e over.lowers) stands.fits.stack.lowers_are
 
   pub lowers-count : (told : Option (List (List ℕ))) (count : ℕ) → LiesOver told count base → count ≡ length (parts_view image.parts).lowers
-  lowers-count told count over = sym over.long ∙ layers-length base.lowers (parts_view image.parts).lowers stands.fits.lowers
+  lowers-count told count over = sym over.long ∙ layers-length base.lowers (parts_view image.parts).lowers stands.fits.stack.lowers_are
 
   -- what a read gives has as many bytes as it should
   pub length-reply : (at count : ℕ) → at + count ≤ base.sectors → length (reply base [] at count) ≡ 512 * count

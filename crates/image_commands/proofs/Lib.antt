@@ -10,3 +10,5 @@ pub mod TellLaws
 pub mod MakeLaws
 pub mod ClearLaws
 pub mod GrowLaws
+pub mod CommitSteps
+pub mod CommitLaws

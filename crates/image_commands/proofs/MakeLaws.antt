@@ -7,7 +7,7 @@ use Rattle.std.proofs.KnownBytes.{Keeps-refl}
 use Rattle.byte_ports.specs.Ports.{AppendsFront}
 use Rattle.lsmt_header.specs.declared.head.Head.{Head}
 use Rattle.std.proofs.lemmas.List.{length-map}
-use Rattle.std.proofs.lemmas.List.Elements.{All-nil, All-head, All-tail, All-map, All-weaker}
+use Rattle.std.proofs.lemmas.List.Elements.{All-head, All-tail, All-map, All-weaker}
 use Rattle.block_disk.specs.DiskState.{DiskState, Leaves}
 use Rattle.block_disk.specs.Claims.{Quiet}
 use Rattle.gate_mark.specs.MarkFile.{mark_of}
@@ -156,7 +156,7 @@ make-refused asked told count n shelf shelf_now disk disk_now layers are legal s
     (failed refl, has-size asked told count n layers are legal size, stacked told layers are legal.legal, stays disk.tells (mark_of (disk.state.seen manifest_file)) (Quiet disk.state disk_now.state) kept)
 
 -- and one that was made
-pub made : (asked : Option ℕ) (told : Option (List (List ℕ))) (count n : ℕ) (layers : List LayerIndex) (tells : Bool) (s s' : DiskState) (f f' : ℕ) (p : Parts) → AreStackedFiles told → length layers ≡ count → p.lowers ≡ layers
+pub made : (asked : Option ℕ) (told : Option (List (List ℕ))) (count n : ℕ) (layers : List LayerIndex) (tells : Bool) (s s' : DiskState) (f f' : ℕ) (p : Parts) → AreStackedFiles told → length layers ≡ count → p.stack.lowers ≡ layers
     → IsSizeFor asked count (upper_sectors layers) n → (IsTrue tells → mark_of (s.seen manifest_file) ≡ None) → StandsFor (record { tells = tells; state = s'; faults = f'; parts = p }) (fresh_at n (lowers_from told layers) f') []
     → IsMade asked told count (record { tells = tells; state = s; faults = f }) (record { tells = tells; state = s'; faults = f'; parts = p })
 made asked told count n layers tells s s' f f' p are long same size none stands =
@@ -165,7 +165,7 @@ made asked told count n layers tells s s' f f' p are long same size none stands 
       lies-over told count layers tells s' f' p base are long same refl stands,
       record {
         size = subst (λ (upper : ℕ). IsSizeFor asked count upper n)
-            (sym (upper-file 0 (lowers_from told layers) layers (subst (AreLayersOf (lowers_from told layers)) same stands.fits.lowers))) size;
+            (sym (upper-file 0 (lowers_from told layers) layers (subst (AreLayersOf (lowers_from told layers)) same stands.fits.stack.lowers_are))) size;
         none = none;
         fresh = refl;
       },
@@ -195,6 +195,7 @@ module _ (asked : Option ℕ) (before now : Ports) (disk : DiskPort) (new : Seen
     opens = opens;
     within = omega arith;
     holds = holds-of (port_of new) base stay (λ files leaves. shows-none base files (leaves-acts new base stands new [] (adds-nothing new) files leaves));
+    swept = tt;
     prints = record { text = created_line n before.count; is = line-is; written = written };
   }
 

@@ -51,21 +51,21 @@ stacked told layers are legal =
 
 -- an image stands for nothing done over a base: that lies over the layers
 pub lies-over : (told : Option (List (List ℕ))) (count : ℕ) (layers : List LayerIndex) (tells : Bool) (s : DiskState) (faults : ℕ) (p : Parts) (base : Base)
-    → AreStackedFiles told → length layers ≡ count → p.lowers ≡ layers → base.lowers ≡ lowers_from told layers → StandsFor (record { tells = tells; state = s; faults = faults; parts = p }) base [] → LiesOver told count base
+    → AreStackedFiles told → length layers ≡ count → p.stack.lowers ≡ layers → base.lowers ≡ lowers_from told layers → StandsFor (record { tells = tells; state = s; faults = faults; parts = p }) base [] → LiesOver told count base
 lies-over told count layers tells s faults p base are long same lowers stands = record {
   stacked = are;
   sound = sound-weaker stands.fits.exact false base (λ e. absurd (let no : false ≡ true = e in cc)) stands.fits.sound;
-  long = layers-length base.lowers p.lowers stands.fits.lowers ∙ ap length same ∙ long;
+  long = layers-length base.lowers p.stack.lowers stands.fits.stack.lowers_are ∙ ap length same ∙ long;
   lowers = IfSome-each told (λ files e. lowers ∙ ap (λ (o : Option (List (List ℕ))). lowers_from o layers) e);
 }
 
-pub opened : (told : Option (List (List ℕ))) (count : ℕ) (layers : List LayerIndex) (tells : Bool) (s s' : DiskState) (f f' : ℕ) (p : Parts) → AreStackedFiles told → length layers ≡ count → p.lowers ≡ layers
+pub opened : (told : Option (List (List ℕ))) (count : ℕ) (layers : List LayerIndex) (tells : Bool) (s s' : DiskState) (f f' : ℕ) (p : Parts) → AreStackedFiles told → length layers ≡ count → p.stack.lowers ≡ layers
     → seen.IsOpened s told (record { tells = tells; state = s'; faults = f'; parts = p })
     → IsOpened told count (record { tells = tells; state = s; faults = f }) (record { tells = tells; state = s'; faults = f'; parts = p })
 opened told count layers tells s s' f f' p are long same is = (
   is.base,
   lies-over told count layers tells s' f' p is.base are long same (is.starts.lowers_are ∙ ap (lowers_from told) same) is.stands,
-  record { shows = is.starts.told; unworn = is.unworn; none_done = is.none_done; none_frozen = is.none_frozen },
+  record { shows = is.starts.told; unworn = is.unworn },
   is.stands,
 )
 

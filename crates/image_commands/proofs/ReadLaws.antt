@@ -11,7 +11,7 @@ use Rattle.layer_commands.specs.declared.refusal.Refusal.{Refusal}
 use Rattle.layer_commands.specs.declared.refusal.Refusal.TheVariants as refused
 use Rattle.layer_commands.specs.Ports.{Ports}
 use Rattle.image_core.specs.Seen.{Seen, StandsFor}
-use Rattle.image_commands.specs.Images.{DiskPort, Opens, PrintsFront, Does, Began, IsBegun}
+use Rattle.image_commands.specs.Images.{DiskPort, Opens, PrintsFront, Does, Began, IsBegun, MayAsk}
 use Rattle.image_commands.specs.ImageCauses.{OpenedOnly, ImageCause}
 use Rattle.image_commands.specs.ImageSteps.{port_of, Adds, fault, WritesSectors, WritesFront, ReadCause}
 use Rattle.image_commands.proofs.Answered.{ok-both, err-both}
@@ -30,6 +30,7 @@ module _ (at count : ℕ) (before now : Ports) (disk : DiskPort) (old new : Seen
     opens = opens;
     within = within;
     holds = holds-of (port_of new) base stay (λ files leaves. shows-none base files (leaves-acts old base stands new [] adds files leaves));
+    swept = tt;
     prints = record {
       text = writes.bytes;
       is = (writes.sectors.long, λ tells. sectors-are old base stands before.files before.count at count writes.bytes opens.over writes.sectors (told_same tells));
@@ -58,7 +59,7 @@ module _ (at count : ℕ) (before now : Ports) (disk : DiskPort) (old new : Seen
         front = AppendsFront-more before.written now.written front.bytes rest front.front;
       }
 
-  pub read-began : (history : History) → IsBegun [] Nothing disk.faults new.faults history → Adds history old new → WritesFront old before.files at count before.written now.written
+  pub read-began : (history : History) → IsBegun [] (MayAsk (Read at count)) disk.faults new.faults history → Adds history old new → WritesFront old before.files at count before.written now.written
       → Began (Read at count) before now disk (port_of new)
   read-began history begun adds front = record {
     bytes = [];
@@ -71,11 +72,11 @@ module _ (at count : ℕ) (before now : Ports) (disk : DiskPort) (old new : Seen
     prints = read-front front;
   }
 
-  none-begun : IsBegun [] Nothing disk.faults new.faults []
+  none-begun : IsBegun [] (MayAsk (Read at count)) disk.faults new.faults []
   none-begun = record { front = []; starts = record { rest = []; is = refl }; is = inl refl }
 
-  fault-begun : disk.faults < new.faults → IsBegun [] Nothing disk.faults new.faults fault
-  fault-begun rose = record { front = []; starts = record { rest = []; is = refl }; is = inr (rose, refl) }
+  fault-begun : disk.faults < new.faults → IsBegun [] (MayAsk (Read at count)) disk.faults new.faults fault
+  fault-begun rose = record { front = []; starts = record { rest = []; is = refl }; is = inr (rose, (Nothing, refl, refl)) }
 
   opened-only : Adds [] old new → WritesFront old before.files at count before.written now.written → OpenedOnly (Read at count) before now disk (port_of new)
   unfolding read-began

@@ -1,6 +1,6 @@
 -- The commands that change an image.
 use Rattle.std.proofs.Common.{◌≡◌, ℕ, ◌+◌, ◌<◌, ◌≤◌, IsTrue, List, [], ◌++◌, refl, sym, ap, ◌∙◌, subst, arith, inl, inr, append-nil}
-use Rattle.std.specs.Prelude.{Option, Some, None, Result, Ok, Err, OnOk, OnErr, IfErr}
+use Rattle.std.specs.Prelude.{Option, Result, Ok, Err, OnOk, OnErr, IfErr}
 use Rattle.std.specs.Result.{IsErrOf}
 use Rattle.std.specs.Io.KnownBytes.{Appends}
 use Rattle.std.proofs.KnownBytes.{Keeps-refl}
@@ -9,6 +9,7 @@ use Rattle.byte_ports.proofs.Chains.{AppendsFront-none}
 use Rattle.block_disk.specs.DiskState.{Files, Leaves}
 use Rattle.flat_image.specs.declared.act.Act.{Act}
 use Rattle.flat_image.specs.declared.base.Base.{Base}
+use Rattle.flat_image.specs.Base.{pending_of}
 use Rattle.flat_image.specs.Entries.{StartsWith}
 use Rattle.flat_image.specs.History as history
 use Rattle.flat_image.specs.History.{History, kept, IsOver, rows_taken, sectors_taken}
@@ -22,7 +23,7 @@ use Rattle.layer_commands.specs.declared.refusal.Refusal.{Refusal}
 use Rattle.layer_commands.specs.declared.refusal.Refusal.TheVariants as refused
 use Rattle.layer_commands.specs.Ports.{Ports}
 use Rattle.image_core.specs.Seen.{Seen, StandsFor}
-use Rattle.image_commands.specs.Images.{DiskPort, Opens, IsPrinted, Does, Began, IsBegun, asked_by, kept_change, entries, acts_of, entries_of, reach_of}
+use Rattle.image_commands.specs.Images.{DiskPort, Opens, IsPrinted, Does, Began, IsBegun, MayAsk, IsSwept, kept_change, entries, acts_of, entries_of, reach_of}
 use Rattle.image_commands.specs.ImageCauses.{IsPartFed, ImageCause}
 use Rattle.image_commands.specs.ImageSteps.{port_of, Adds, fault, fault_of, ChangeCause, TellCause}
 use Rattle.image_commands.proofs.Answered.{ok-both}
@@ -48,25 +49,26 @@ tell-failed (Err refusal) change line old new sink sink_now written written_now 
 -- ---- the acts of a command, and the line that tells of them
 
 module _ (command : Command) (bytes line : List ℕ) (acts : List Act) (before now : Ports) (disk : DiskPort) (old new : Seen) (base : Base)
-    (asked : acts_of command bytes ≡ acts) (opens : Opens command before disk bytes base) (within : reach_of command bytes ≤ base.sectors)
+    (asked : acts_of command bytes (pending_of base.frozen) ≡ acts) (opens : Opens command before disk bytes base) (within : reach_of command bytes ≤ base.sectors)
     (stands : StandsFor old base []) (printed : IsPrinted command before disk bytes base line) where
-  pub same-acts : entries acts ≡ entries_of command bytes
+  pub same-acts : entries acts ≡ entries_of command bytes (pending_of base.frozen)
   same-acts = ap (λ list. entries list) (sym asked)
 
   pub acts-do : ((files : Files) → ShowsLeft base (entries acts) files → Shows files (history.now base (entries acts))) → (IsTrue new.tells → Leaves new.state new.state.seen)
-      → Adds (entries acts) old new → Appends before.written now.written line → Does command before now disk (port_of new)
-  acts-do shown stay adds written = record {
+      → IsSwept command (port_of new) base → Adds (entries acts) old new → Appends before.written now.written line → Does command before now disk (port_of new)
+  acts-do shown stay swept adds written = record {
     bytes = bytes;
     base = base;
     opens = opens;
     within = within;
-    holds = holds-of (port_of new) (history.now base (entries_of command bytes)) stay
+    holds = holds-of (port_of new) (history.now base (entries_of command bytes (pending_of base.frozen))) stay
         (λ files leaves. subst (λ (h : History). Shows files (history.now base h)) same-acts
         (shown files (leaves-acts old base stands new (entries acts) adds files leaves)));
+    swept = swept;
     prints = record { text = line; is = printed; written = written };
   }
 
-  unfoldable pub acts-began : (history : History) → IsBegun (entries_of command bytes) (asked_by command) disk.faults new.faults history → Adds history old new
+  unfoldable pub acts-began : (history : History) → IsBegun (entries_of command bytes (pending_of base.frozen)) (MayAsk command) disk.faults new.faults history → Adds history old new
       → AppendsFront before.written now.written line → Began command before now disk (port_of new)
   acts-began history begun adds front = record {
     bytes = bytes;
@@ -79,46 +81,46 @@ module _ (command : Command) (bytes line : List ℕ) (acts : List Act) (before n
     prints = record { text = line; is = printed; front = front };
   }
 
-  pub none-begun : IsBegun (entries_of command bytes) (asked_by command) disk.faults new.faults []
-  none-begun = record { front = []; starts = record { rest = entries_of command bytes; is = refl }; is = inl refl }
+  pub none-begun : IsBegun (entries_of command bytes (pending_of base.frozen)) (MayAsk command) disk.faults new.faults []
+  none-begun = record { front = []; starts = record { rest = entries_of command bytes (pending_of base.frozen); is = refl }; is = inl refl }
 
-  pub all-begun : IsBegun (entries_of command bytes) (asked_by command) disk.faults new.faults (entries acts)
+  pub all-begun : IsBegun (entries_of command bytes (pending_of base.frozen)) (MayAsk command) disk.faults new.faults (entries acts)
   all-begun = record { front = entries acts; starts = record { rest = []; is = sym same-acts ∙ sym (append-nil (entries acts)) }; is = inl refl }
 
-  pub fault-begun : (front : History) → StartsWith (entries acts) front → disk.faults < new.faults
-      → IsBegun (entries_of command bytes) (asked_by command) disk.faults new.faults (front ++ fault_of (asked_by command))
-  fault-begun front starts rose = record { front = front; starts = subst (λ (h : History). StartsWith h front) same-acts starts; is = inr (rose, refl) }
+  pub fault-begun : (wanted : Asked) → MayAsk command wanted → (front : History) → StartsWith (entries acts) front → disk.faults < new.faults
+      → IsBegun (entries_of command bytes (pending_of base.frozen)) (MayAsk command) disk.faults new.faults (front ++ fault_of wanted)
+  fault-begun wanted may front starts rose = record { front = front; starts = subst (λ (h : History). StartsWith h front) same-acts starts; is = inr (rose, (wanted, may, refl)) }
 
 -- ---- a change, and the flush behind it
 
 module _ (command : Command) (bytes line : List ℕ) (change : Act) (before now : Ports) (disk : DiskPort) (old new : Seen) (base : Base)
-    (asked : acts_of command bytes ≡ kept_change change) (is_change : IsChange change) (all_kept : kept (entries (kept_change change)) ≡ 2) (unnamed : asked_by command ≡ Nothing)
+    (asked : acts_of command bytes (pending_of base.frozen) ≡ kept_change change) (is_change : IsChange change) (all_kept : kept (entries (kept_change change)) ≡ 2) (unnamed : MayAsk command Nothing) (unswept : IsSwept command (port_of new) base)
     (opens : Opens command before disk bytes base) (within : reach_of command bytes ≤ base.sectors) (stands : StandsFor old base [])
     (printed : IsPrinted command before disk bytes base line) (part : IsPartFed command before now) where
   pub change-does : (IsTrue new.tells → Leaves new.state new.state.seen) → Adds (entries (kept_change change)) old new → Appends before.written now.written line
       → Does command before now disk (port_of new)
-  change-does = acts-do command bytes line (kept_change change) before now disk old new base asked opens within stands printed (λ files. shows-kept base change files is_change all_kept)
+  change-does stay =
+      acts-do command bytes line (kept_change change) before now disk old new base asked opens within stands printed (λ files. shows-kept base change files is_change all_kept) stay unswept
 
-  pub change-began : (history : History) → IsBegun (entries_of command bytes) (asked_by command) disk.faults new.faults history → Adds history old new → AppendsFront before.written now.written line
+  pub change-began : (history : History) → IsBegun (entries_of command bytes (pending_of base.frozen)) (MayAsk command) disk.faults new.faults history → Adds history old new → AppendsFront before.written now.written line
       → Began command before now disk (port_of new)
   change-began = acts-began command bytes line (kept_change change) before now disk old new base asked opens within stands printed
 
   not-create : (wanted : Option ℕ) → command ≡ Create wanted → ⊥
-  not-create wanted is = let none : [] ≡ kept_change change = sym (ap (λ (c : Command). acts_of c bytes) is) ∙ asked in cc
+  not-create wanted is = let none : [] ≡ kept_change change = sym (ap (λ (c : Command). acts_of c bytes (pending_of base.frozen)) is) ∙ asked in cc
 
-  change-none : IsBegun (entries_of command bytes) (asked_by command) disk.faults new.faults []
+  change-none : IsBegun (entries_of command bytes (pending_of base.frozen)) (MayAsk command) disk.faults new.faults []
   change-none = none-begun command bytes line (kept_change change) before now disk old new base asked opens within stands printed
 
-  change-all : IsBegun (entries_of command bytes) (asked_by command) disk.faults new.faults (entries (kept_change change))
+  change-all : IsBegun (entries_of command bytes (pending_of base.frozen)) (MayAsk command) disk.faults new.faults (entries (kept_change change))
   change-all = all-begun command bytes line (kept_change change) before now disk old new base asked opens within stands printed
 
   change-fault : (front : History) → StartsWith (entries (kept_change change)) front → disk.faults < new.faults
-      → IsBegun (entries_of command bytes) (asked_by command) disk.faults new.faults (front ++ fault)
+      → IsBegun (entries_of command bytes (pending_of base.frozen)) (MayAsk command) disk.faults new.faults (front ++ fault)
   change-fault front starts rose =
-      subst (λ (a : Asked). IsBegun (entries_of command bytes) (asked_by command) disk.faults new.faults (front ++ fault_of a)) unnamed
-      (fault-begun command bytes line (kept_change change) before now disk old new base asked opens within stands printed front starts rose)
+      fault-begun command bytes line (kept_change change) before now disk old new base asked opens within stands printed Nothing unnamed front starts rose
 
-  same-change : entries (kept_change change) ≡ entries_of command bytes
+  same-change : entries (kept_change change) ≡ entries_of command bytes (pending_of base.frozen)
   same-change = same-acts command bytes line (kept_change change) before now disk old new base asked opens within stands printed
 
   pub change-refused : (sink : ℕ) → disk.faults ≤ old.faults → before.sink_faults ≤ sink → (refusal : Refusal)

@@ -1,6 +1,6 @@
 -- Reads change nothing of an image, and leave nothing.
-use Rattle.std.proofs.Common.{◌≡◌, ℕ, Bool, false, List, [], ◌∷◌, ◌++◌, take, drop, refl, ap, ◌∙◌, subst, inl, inr}
-use Rattle.std.specs.Prelude.{fold, All, Some}
+use Rattle.std.proofs.Common.{◌≡◌, ℕ, Bool, true, false, List, [], ◌∷◌, ◌++◌, take, drop, refl, sym, ap, ◌∙◌, subst, inl, inr}
+use Rattle.std.specs.Prelude.{fold, All, Option, None, Some}
 use Rattle.std.proofs.lemmas.List.Elements.{All-nil, All-cons, All-head, All-tail, All-filter, filter-append}
 use Rattle.block_disk.specs.DiskState.{Files}
 use Rattle.flat_image.specs.declared.act.Act.{Act}
@@ -13,12 +13,12 @@ use Rattle.flat_image.specs.Sheets.{bytes_of}
 use Rattle.flat_image.specs.Base.{image_of}
 use Rattle.flat_image.specs.Entries.{entry}
 use Rattle.flat_image.specs.History.{History, now, after, step, changed, keeps, kept, reply}
-use Rattle.flat_image.specs.Left.{stand, put_top, Kept, ends_blame, Blamed, Advances, Left}
+use Rattle.flat_image.specs.Left.{Stand, stand, put_top, Kept, ends_blame, Blamed, Advances, Left}
 use Rattle.flat_image.proofs.HistoryLaws.{after-append}
 use Rattle.image_core.specs.Shows.{Shows}
 use Rattle.image_core.specs.Standing.{ShowsLeft}
 use Rattle.image_core.proofs.StandLaws.{kept-shows}
-use Rattle.image_commands.specs.Images.{kept_change, entries}
+use Rattle.image_commands.specs.Images.{kept_change, commit_acts, entries}
 use Rattle.image_commands.specs.ImageSteps.{is_no_read, without_reads}
 
 abbrev IsKeptIn : Entry Act → Bool
@@ -93,6 +93,9 @@ shows-without base h files left = record { found = left.found; shows = left.show
 
 -- ---- a history without a failed step
 
+abbrev IsUnkept : Entry Act → Type 0
+IsUnkept e = keeps e.act ≡ false
+
 abbrev IsGood : Entry Act → Type 0
 IsGood e = (asked : Asked) → e.act ≡ Fault asked → ⊥
 
@@ -161,3 +164,54 @@ reply-read base h more at count none = ap (λ (image : List (List ℕ)). bytes_o
     after-append base h more
     ∙ run-without changed (λ s a c. refl) more (after base h)
     ∙ ap (λ (l : History). fold (λ image e. changed image e.act) (after base h) l) none)
+
+freeze-good : (uuid : List ℕ) (asked : Asked) → Freeze uuid ≡ Fault asked → ⊥
+freeze-good uuid asked e = cc
+
+seal-good : (uuid : List ℕ) (asked : Asked) → Seal uuid ≡ Fault asked → ⊥
+seal-good uuid asked e = cc
+
+commit-good : (uuid : List ℕ) (pending : Option (List ℕ)) → All IsGood (entries (commit_acts uuid pending))
+commit-good uuid None =
+    All-cons IsGood (entry 0 (Freeze uuid)) (entry 0 (Seal uuid) ∷ []) (freeze-good uuid) (All-cons IsGood (entry 0 (Seal uuid)) [] (seal-good uuid) (All-nil IsGood))
+commit-good uuid (Some own) = All-cons IsGood (entry 0 (Seal uuid)) [] (seal-good uuid) (All-nil IsGood)
+
+-- a beginning that has all that is kept of a commit has its top, which a seal leaves as it is
+commit-stand : (base : Base) (uuid : List ℕ) (pending : Option (List ℕ)) (front : History) → Kept (entries (commit_acts uuid pending)) front
+    → stand (now base front) ≡ stand (now base (entries (commit_acts uuid pending)))
+commit-stand base uuid None [] k =
+    let all : All IsUnkept (entry 0 (Freeze uuid) ∷ entry 0 (Seal uuid) ∷ []) = subst (λ (l : History). All IsUnkept l) (sym k.splits) k.unkept in
+    let unlike : true ≡ false = All-head IsUnkept (entry 0 (Freeze uuid)) (entry 0 (Seal uuid) ∷ []) all in
+    absurd (cc)
+commit-stand base uuid None (x ∷ []) k =
+    let splits : entry 0 (Freeze uuid) ∷ (entry 0 (Seal uuid) ∷ []) ≡ x ∷ k.rest = k.splits in
+    let first : x ≡ entry 0 (Freeze uuid) = cc in
+    ap (λ (a : Entry Act). stand (step base a.act)) first
+commit-stand base uuid None (x ∷ y ∷ []) k =
+    let splits : entry 0 (Freeze uuid) ∷ (entry 0 (Seal uuid) ∷ []) ≡ x ∷ (y ∷ k.rest) = k.splits in
+    let first : x ≡ entry 0 (Freeze uuid) = cc in
+    let second : y ≡ entry 0 (Seal uuid) = cc in
+    ap (λ (a : Entry Act). stand (step (step base a.act) y.act)) first ∙ ap (λ (a : Entry Act). stand (step (step base (Freeze uuid)) a.act)) second
+commit-stand base uuid None (x ∷ y ∷ z ∷ more) k =
+    let splits : entry 0 (Freeze uuid) ∷ (entry 0 (Seal uuid) ∷ []) ≡ x ∷ (y ∷ (z ∷ (more ++ k.rest))) = k.splits in
+    absurd (cc)
+commit-stand base uuid (Some own) [] k = refl
+commit-stand base uuid (Some own) (x ∷ []) k =
+    let splits : entry 0 (Seal uuid) ∷ [] ≡ x ∷ k.rest = k.splits in
+    let first : x ≡ entry 0 (Seal uuid) = cc in
+    ap (λ (a : Entry Act). stand (step base a.act)) first
+commit-stand base uuid (Some own) (x ∷ y ∷ more) k =
+    let splits : entry 0 (Seal uuid) ∷ [] ≡ x ∷ (y ∷ (more ++ k.rest)) = k.splits in
+    absurd (cc)
+
+-- and of a commit, the base with the layer
+pub shows-committed : (base : Base) (uuid : List ℕ) (pending : Option (List ℕ)) (files : Files) → ShowsLeft base (entries (commit_acts uuid pending)) files → Shows files (now base (entries (commit_acts uuid pending)))
+shows-committed base uuid pending files shown =
+    let h : History = entries (commit_acts uuid pending) in
+    let good : All IsGood h = commit-good uuid pending in
+    let same : put_top (now base h) (stand (now base shown.left.front)) ≡ now base h = ap (λ (s : Stand). put_top (now base h) s) (commit-stand base uuid pending shown.left.front shown.left.kept) in
+    let is : shown.found ≡ now base h = elim shown.left.is [
+      | inl found ↦ found ∙ same
+      | inr other ↦ absurd (no-blame h other.1.front other.1.rest other.1.number other.0 good other.1.splits)
+    ] in
+    subst (λ (b : Base). Shows files b) is shown.shows

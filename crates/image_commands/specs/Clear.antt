@@ -1,7 +1,9 @@
 -- When nothing stands in the way of a command on an image.
-use Rattle.std.specs.Prelude.{◌≡◌, ℕ, ◌+◌, ◌<◌, ◌≤◌, IsTrue, List, [], length, Option, Some, None}
+use Rattle.std.specs.Prelude.{◌≡◌, ℕ, ◌+◌, ◌<◌, ◌≤◌, ◌⊎◌, IsTrue, List, [], ◌++◌, length, map, Contains, Option, Some, None}
 use Rattle.flat_image.specs.declared.act.Act.{Act}
 use Rattle.flat_image.specs.declared.base.Base.{Base}
+use Rattle.flat_image.specs.Base.{pending_of}
+use Rattle.flat_image.specs.LayerReading.{uuid_in}
 use Rattle.flat_image.specs.History.{IsOver, rows_taken, sectors_taken}
 use Rattle.flat_image.specs.Stacks.{Legal}
 use Rattle.gate_mark.specs.MarkFile.{mark_of}
@@ -19,18 +21,28 @@ abbrev pub HaveAskedSize : Option ℕ → List (List ℕ) → List LayerSheet �
 HaveAskedSize None files layers = 1 ≤ length files
 HaveAskedSize (Some sectors) files layers = 1 ≤ length files → sectors_of layers ≤ sectors
 
--- The disk's files show an image without commits over these lower files, with no sequence over 2^61; the command's sectors
--- lie in it, there is room for its change, and a grow asks for more sectors.
+-- no commit of the image is in progress, and so many sectors are more than it has
+pub record CanBeLarger (base : Base) (sectors : ℕ) : Type 0 where
+  pub none : pending_of base.frozen ≡ None
+  pub more : base.sectors < sectors
+
+-- the commit of this uuid is in progress; or none is, and the image has fewer than 255 layers, none with the uuid
+abbrev pub CanBeCommitted : Base → List ℕ → Type 0
+CanBeCommitted base uuid =
+    (pending_of base.frozen ≡ Some uuid)
+    ⊎ ((pending_of base.frozen ≡ None) × (length (base.lowers ++ base.done) < 255) × (Contains (map uuid_in (base.lowers ++ base.done)) uuid → ⊥))
+
+-- The disk's files show an image over these lower files, with no sequence over 2^61; the command's sectors lie in it, there
+-- is room for its change, a grow asks for more sectors than it has, and no commit stops a grow or a commit.
 pub record IsOpen (command : Command) (files : List (List ℕ)) (disk : DiskPort) (bytes : List ℕ) : Type 0 where
   pub base : Base
   pub over : base.lowers ≡ files
   pub shows : Shows disk.state.seen base
   pub unworn : IsUnworn disk.state.seen base shows
-  pub none_done : base.done ≡ []
-  pub none_frozen : base.frozen ≡ None
   pub within : reach_of command bytes ≤ base.sectors
-  pub room : (change : Act) → acts_of command bytes ≡ kept_change change → IsOver (base.rows + rows_taken change) (base.filled + sectors_taken change) → ⊥
-  pub larger : (sectors : ℕ) → command ≡ Grow sectors → base.sectors < sectors
+  pub room : (change : Act) → acts_of command bytes (pending_of base.frozen) ≡ kept_change change → IsOver (base.rows + rows_taken change) (base.filled + sectors_taken change) → ⊥
+  pub larger : (sectors : ℕ) → command ≡ Grow sectors → CanBeLarger base sectors
+  pub free : (uuid : List ℕ) → command ≡ Commit uuid → CanBeCommitted base uuid
 
 -- what the source, the layers and the disk have to be for the command
 abbrev pub IsReady : Command → Option (List ℕ) → List (List ℕ) → List LayerSheet → DiskPort → Type 0
@@ -42,8 +54,8 @@ IsReady (Flatten stdin) left files layers disk = ⊥
 IsReady (Info number) left files layers disk = ⊥
 IsReady Stack left files layers disk = ⊥
 IsReady (Grow sectors) left files layers disk = IsOpen (Grow sectors) files disk []
-IsReady (Commit uuid) left files layers disk = ⊥
-IsReady Sweep left files layers disk = ⊥
+IsReady (Commit uuid) left files layers disk = IsOpen (Commit uuid) files disk []
+IsReady Sweep left files layers disk = IsOpen Sweep files disk []
 IsReady (Make seed acts) left files layers disk = ⊥
 IsReady (Export connections) left files layers disk = ⊥
 

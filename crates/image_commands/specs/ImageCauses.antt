@@ -1,12 +1,13 @@
 -- Why the image commands are refused, and what stands after it: each as the first in the order in which a command looks at
 -- the source, the shelf's layers, their stack, the size, the disk, the range and the room.
-use Rattle.std.specs.Prelude.{◌≡◌, ◌≢◌, ℕ, ◌+◌, ◌%◌, ◌<◌, ◌≤◌, ◌⊎◌, IsTrue, List, [], length, Option, Some, None, IfSome, ⊤}
+use Rattle.std.specs.Prelude.{◌≡◌, ◌≢◌, ℕ, ◌+◌, ◌%◌, ◌<◌, ◌≤◌, ◌⊎◌, IsTrue, List, [], ◌++◌, length, map, Contains, Option, Some, None, IfSome, ⊤}
 use Rattle.std.specs.Io.KnownBytes.{Keeps}
 use Rattle.block_disk.specs.Claims.{Quiet}
 use Rattle.gate_mark.specs.MarkFile.{mark_of}
 use Rattle.flat_image.specs.declared.act.Act.{Act}
 use Rattle.flat_image.specs.declared.base.Base.{Base}
 use Rattle.flat_image.specs.Base.{pending_of}
+use Rattle.flat_image.specs.LayerReading.{uuid_in}
 use Rattle.flat_image.specs.History.{IsOver, rows_taken, sectors_taken}
 use Rattle.flat_image.specs.Stacks.{Legal}
 use Rattle.layer_stack.specs.Faults.{IsStackFault}
@@ -26,7 +27,7 @@ use Rattle.layer_commands.specs.Causes.{IsOfCount, StopsAt}
 use Rattle.image_core.specs.declared.loading.LoadFault.TheVariants as load
 use Rattle.image_commands.specs.declared.refusal.ImageRefusal.{ImageRefusal}
 use Rattle.image_commands.specs.declared.refusal.ImageRefusal.TheVariants.{Load, Other}
-use Rattle.image_commands.specs.Images.{DiskPort, Takes, kept_change, acts_of, entries_of, reach_of, AreStackedFiles, Opens, LeavesOf, Began}
+use Rattle.image_commands.specs.Images.{DiskPort, Takes, kept_change, acts_of, entries_of, reach_of, AreStackedFiles, LiesOver, IsFound, Opens, LeavesOf, Began}
 
 -- nothing was written, and the disk is as it was
 pub record Untouched (before now : Ports) (disk disk_now : DiskPort) : Type 0 where
@@ -105,19 +106,53 @@ pub record IsFull (command : Command) (before : Ports) (disk disk_now : DiskPort
   pub opens : Opens command before disk bytes base
   pub within : reach_of command bytes ≤ base.sectors
   pub change : Act
-  pub asked : acts_of command bytes ≡ kept_change change
+  pub asked : acts_of command bytes (pending_of base.frozen) ≡ kept_change change
   pub rows_are : rows ≡ base.rows
   pub sectors_are : sectors ≡ base.filled
   pub over : IsOver (base.rows + rows_taken change) (base.filled + sectors_taken change)
   pub crash : LeavesOf disk_now base []
 
--- the image that was to grow has the commit of this uuid in progress
+-- the commit of this uuid stops the command: a grow any, and a commit another one's
+abbrev pub IsStoppedBy : Command → List ℕ → Type 0
+IsStoppedBy (Grow sectors) other = ⊤
+IsStoppedBy (Commit uuid) other = other ≢ uuid
+IsStoppedBy (Flatten stdin) other = ⊥
+IsStoppedBy (Info number) other = ⊥
+IsStoppedBy Stack other = ⊥
+IsStoppedBy Sweep other = ⊥
+IsStoppedBy (Make seed acts) other = ⊥
+IsStoppedBy (Export connections) other = ⊥
+IsStoppedBy (Create asked) other = ⊥
+IsStoppedBy (Read at count) other = ⊥
+IsStoppedBy (Write at) other = ⊥
+IsStoppedBy (Zero at count) other = ⊥
+
+-- the image has the commit of this uuid in progress, which stops the command
 pub record HasCommit (command : Command) (before : Ports) (disk : DiskPort) (uuid : List ℕ) : Type 0 where
-  pub sectors : ℕ
-  pub grows : command ≡ Grow sectors
+  pub stops : IsStoppedBy command uuid
+  pub base : Base
+  pub over : LiesOver before.files before.count base
+  pub found : IsFound disk base
+  pub pending : pending_of base.frozen ≡ Some uuid
+
+-- the image that was to be committed with this uuid has as many layers as there may be, or else it has a layer with that
+-- uuid; and no commit is in progress
+pub record HasMostLayers (command : Command) (before : Ports) (disk : DiskPort) : Type 0 where
+  pub uuid : List ℕ
+  pub commits : command ≡ Commit uuid
   pub base : Base
   pub opens : Opens command before disk [] base
-  pub pending : pending_of base.frozen ≡ Some uuid
+  pub free : pending_of base.frozen ≡ None
+  pub many : 255 ≤ length (base.lowers ++ base.done)
+
+pub record HasLayerOf (command : Command) (before : Ports) (disk : DiskPort) : Type 0 where
+  pub uuid : List ℕ
+  pub commits : command ≡ Commit uuid
+  pub base : Base
+  pub opens : Opens command before disk [] base
+  pub free : pending_of base.frozen ≡ None
+  pub few : length (base.lowers ++ base.done) < 255
+  pub twice : Contains (map uuid_in (base.lowers ++ base.done)) uuid
 
 -- the image has so many sectors, no fewer than it was to have, and no commit is in progress
 pub record IsAsLarge (command : Command) (before : Ports) (disk : DiskPort) (sectors : ℕ) : Type 0 where
@@ -153,7 +188,7 @@ pub record OpenedOnly (command : Command) (before now : Ports) (disk disk_now : 
 -- all acts of the command were done, and a front of what it prints was written
 pub record ActsAll (command : Command) (before now : Ports) (disk disk_now : DiskPort) : Type 0 where
   pub began : Began command before now disk disk_now
-  pub all : began.history ≡ entries_of command began.bytes
+  pub all : began.history ≡ entries_of command began.bytes (pending_of began.base.frozen)
 
 -- The cause of a refusal of an image command, and what stands after it. Where memory is wanting, what was taken of the source
 -- is no more than a write takes, and no image was made or changed.
@@ -185,6 +220,10 @@ ImageCause command before now disk disk_now (refused.Busy uuid) =
     HasCommit command before disk uuid × Untouched before now disk disk_now
 ImageCause command before now disk disk_now (refused.NotLarger sectors) =
     IsAsLarge command before disk sectors × Untouched before now disk disk_now
+ImageCause command before now disk disk_now refused.TooManyLayers =
+    HasMostLayers command before disk × Untouched before now disk disk_now
+ImageCause command before now disk disk_now refused.UuidTwice =
+    HasLayerOf command before disk × Untouched before now disk disk_now
 ImageCause command before now disk disk_now refused.DiskFault = DiskFailed command before now disk disk_now
 ImageCause command before now disk disk_now refused.ShelfFault =
     (before.shelf_faults < now.shelf_faults) × IsFed command before

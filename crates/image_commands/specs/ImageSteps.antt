@@ -1,8 +1,7 @@
 -- What the steps of a command do to an opened image.
-use Rattle.std.specs.Prelude.{◌≡◌, ◌≢◌, ℕ, ◌+◌, ◌*◌, ◌%◌, ◌<◌, ◌≤◌, ◌⊎◌, ⊤, Result, Ok, Err, Bool, true, false, IsTrue, List, [], ◌∷◌, ◌++◌, length, filter, Option, Some, None, IfSome}
+use Rattle.std.specs.Prelude.{◌≡◌, ◌≢◌, ℕ, ◌+◌, ◌*◌, ◌%◌, ◌<◌, ◌≤◌, ◌⊎◌, ⊤, Result, Ok, Err, Bool, true, false, IsTrue, List, [], ◌∷◌, ◌++◌, length, filter, Contains, Option, Some, None, IfSome}
 use Rattle.std.specs.Io.KnownBytes.{Appends, Keeps}
 use Rattle.byte_ports.specs.Ports.{AppendsFront}
-use Rattle.block_disk.specs.DiskState.{DiskState}
 use Rattle.block_disk.specs.Claims.{Quiet}
 use Rattle.flat_image.specs.declared.act.Act.{Act}
 use Rattle.flat_image.specs.declared.act.Act.TheVariants.{Read, Write, Zero, Flush, Freeze, Seal, Grow, Fault}
@@ -23,6 +22,10 @@ use Rattle.image_core.specs.declared.creating.CreateFault.TheVariants as create
 use Rattle.image_core.specs.declared.growing.GrowFault.{GrowFault}
 use Rattle.image_core.specs.declared.growing.GrowFault.TheVariants as grow
 use Rattle.image_core.specs.Growing.{pending_in}
+use Rattle.image_core.specs.Committing.{uuids_in}
+use Rattle.image_core.specs.declared.commit.FreezeFault.{FreezeFault}
+use Rattle.image_core.specs.declared.commit.FreezeFault.TheVariants as freeze
+use Rattle.tool_setup.specs.declared.command.Command.TheVariants.{Commit}
 use Rattle.image_core.specs.declared.whole.WholeFault.{WholeFault}
 use Rattle.image_core.specs.declared.whole.WholeFault.TheVariants as whole
 use Rattle.image_core.specs.Parts.{parts_view}
@@ -34,7 +37,8 @@ use Rattle.layer_commands.specs.Causes.{IsOfCount, StopsAt}
 use Rattle.layer_commands.specs.Input.{TakesSectors}
 use Rattle.image_commands.specs.declared.refusal.ImageRefusal.{ImageRefusal}
 use Rattle.image_commands.specs.declared.refusal.ImageRefusal.TheVariants.{Load, Other}
-use Rattle.image_commands.specs.Images.{DiskPort, AreStackedFiles, LiesOver, IsNew, IsFound, kept_change, entries}
+use Rattle.image_commands.specs.Images.{DiskPort, AreStackedFiles, LiesOver, IsNew, IsFound, IsFree, MayAsk, kept_change, commit_acts, committed_size, entries}
+use Rattle.image_commands.specs.ImageReports.{committed_line, swept_line}
 use Rattle.image_commands.specs.ImageCauses.{HaveOtherSize, HasSize, HoldsNone}
 
 -- the sectors of the image
@@ -139,16 +143,16 @@ grow_refused_as (grow.Busy uuid) = refused.Busy uuid
 grow_refused_as (grow.NotLarger sectors) = refused.NotLarger sectors
 grow_refused_as grow.Failed = refused.DiskFault
 
--- a grow was refused, and nothing of the image or its disk is another
-pub record NoGrow (old new : Seen) : Type 0 where
+-- a step was refused, and nothing of the image or its disk is another
+pub record NoStep (old new : Seen) : Type 0 where
   pub adds : Adds [] old new
   pub same : Quiet old.state new.state
 
 -- why an image did not grow to so many sectors
 abbrev pub GrowCause : ℕ → (old new : Seen) → Refusal → Type 0
-GrowCause sectors old new (refused.Busy uuid) = (pending_in (parts_view old.parts) ≡ Some uuid) × NoGrow old new
+GrowCause sectors old new (refused.Busy uuid) = (pending_in (parts_view old.parts) ≡ Some uuid) × NoStep old new
 GrowCause sectors old new (refused.NotLarger n) =
-    (pending_in (parts_view old.parts) ≡ None) × (n ≡ size_of old) × (sectors ≤ n) × NoGrow old new
+    (pending_in (parts_view old.parts) ≡ None) × (n ≡ size_of old) × (sectors ≤ n) × NoStep old new
 GrowCause sectors old new refused.DiskFault = (old.faults < new.faults) × Adds (fault_of (Sectors sectors)) old new
 GrowCause sectors old new other = ⊥
 
@@ -164,6 +168,71 @@ GrowTold sectors line old new sink sink_now written written_now (refused.NotLarg
 GrowTold sectors line old new sink sink_now written written_now refused.SinkFault =
     (sink < sink_now) × Adds (entries (Grow sectors ∷ [])) old new × AppendsFront written written_now line
 GrowTold sectors line old new sink sink_now written written_now other = ⊥
+
+-- whatever the image stood for, it stands for that now
+abbrev pub IsAsBefore : (old new : Seen) → Type 0
+IsAsBefore old new = (base : Base) (history : History) → StandsFor old base history → StandsFor new base history
+
+-- what the fault of a freeze is refused as
+abbrev pub freeze_refused_as : FreezeFault → Refusal
+freeze_refused_as (freeze.Busy uuid) = refused.Busy uuid
+freeze_refused_as freeze.TooMany = refused.TooManyLayers
+freeze_refused_as freeze.UuidTwice = refused.UuidTwice
+freeze_refused_as freeze.Memory = refused.Memory
+freeze_refused_as freeze.Failed = refused.DiskFault
+
+-- a beginning of the acts was done, with a failed step behind it that asked for one of these, or with none
+abbrev pub AddsFront : History → (Asked → Type 0) → (old new : Seen) → Type 0
+AddsFront acts asks old new =
+    (front : History) × StartsWith acts front
+    × (Adds front old new ⊎ ((asked : Asked) × asks asked × Adds (front ++ fault_of asked) old new))
+
+-- why the top was not committed with this uuid, or the size of its file was not told
+abbrev pub CommitCause : List ℕ → (old new : Seen) → Refusal → Type 0
+CommitCause uuid old new (refused.Busy other) =
+    (pending_in (parts_view old.parts) ≡ Some other) × (other ≢ uuid) × NoStep old new
+CommitCause uuid old new refused.TooManyLayers =
+    (pending_in (parts_view old.parts) ≡ None) × (255 ≤ length (uuids_in (parts_view old.parts))) × NoStep old new
+CommitCause uuid old new refused.UuidTwice =
+    (pending_in (parts_view old.parts) ≡ None) × (length (uuids_in (parts_view old.parts)) < 255)
+    × Contains (uuids_in (parts_view old.parts)) uuid × NoStep old new
+CommitCause uuid old new refused.Memory = IsFree uuid (pending_in (parts_view old.parts)) × Adds [] old new
+CommitCause uuid old new refused.DiskFault =
+    IsFree uuid (pending_in (parts_view old.parts)) × (old.faults < new.faults)
+    × AddsFront (entries (commit_acts uuid (pending_in (parts_view old.parts)))) (MayAsk (Commit uuid)) old new
+CommitCause uuid old new other = ⊥
+
+-- so many bytes has the file that a commit of the image, as it was opened, makes
+abbrev pub IsCommitSize : List ℕ → Seen → ℕ → Type 0
+IsCommitSize uuid old size = (base : Base) → StandsFor old base [] → IsTrue old.tells → size ≡ committed_size uuid base
+
+-- the text is what a commit of the image prints
+abbrev pub SaysCommit : List ℕ → Seen → List ℕ → Type 0
+SaysCommit uuid old text =
+    (size : ℕ) × (text ≡ committed_line uuid (length (parts_view old.parts).committed) size) × IsCommitSize uuid old size
+
+-- it was written, or a front of it
+abbrev pub TellsCommit : List ℕ → Seen → (written written_now : Option (List ℕ)) → Type 0
+TellsCommit uuid old written written_now = (text : List ℕ) × SaysCommit uuid old text × Appends written written_now text
+
+abbrev pub TellsFront : List ℕ → Seen → (written written_now : Option (List ℕ)) → Type 0
+TellsFront uuid old written written_now = (text : List ℕ) × SaysCommit uuid old text × AppendsFront written written_now text
+
+-- why a commit and the line that tells of it were not both done, and what was written then
+abbrev pub CommitTold : List ℕ → (old new : Seen) → (sink sink_now : ℕ) → (written written_now : Option (List ℕ)) → Refusal → Type 0
+CommitTold uuid old new sink sink_now written written_now refused.SinkFault =
+    IsFree uuid (pending_in (parts_view old.parts)) × (sink < sink_now)
+    × Adds (entries (commit_acts uuid (pending_in (parts_view old.parts)))) old new × TellsFront uuid old written written_now
+CommitTold uuid old new sink sink_now written written_now refusal = CommitCause uuid old new refusal × Keeps written written_now
+
+-- why a sweep and the line that tells of it were not both done, and what was written then
+abbrev pub SweepTold : (old new : Seen) → (sink sink_now : ℕ) → (written written_now : Option (List ℕ)) → Refusal → Type 0
+SweepTold old new sink sink_now written written_now refused.DiskFault =
+    (old.faults < new.faults) × Adds fault old new × Keeps written written_now
+SweepTold old new sink sink_now written written_now refused.SinkFault =
+    (sink < sink_now) × Adds [] old new
+    × AppendsFront written written_now (swept_line (length (parts_view old.parts).committed))
+SweepTold old new sink sink_now written written_now other = ⊥
 
 -- the disk of an image
 abbrev pub port_of : Seen → DiskPort

@@ -4,9 +4,8 @@ use Rattle.top_writer.specs.declared.fault.TopReason.{TopReason}
 use Rattle.top_writer.specs.declared.fault.TopReason.TheVariants as top
 use Rattle.image_core.specs.declared.loading.LoadFault.{LoadFault}
 use Rattle.image_core.specs.declared.loading.LoadFault.TheVariants as load
-use Rattle.layer_commands.specs.declared.refusal.Refusal.{Refusal}
 use Rattle.layer_commands.specs.declared.refusal.Refusal.TheVariants as refused
-use Rattle.layer_commands.specs.Texts.{head_text, stack_text, text_of, code_of}
+use Rattle.layer_commands.specs.Texts.{head_text, layer_text, stack_text, text_of, code_of}
 use Rattle.image_commands.specs.declared.refusal.ImageRefusal.{ImageRefusal}
 use Rattle.image_commands.specs.declared.refusal.ImageRefusal.TheVariants.{Other, Load}
 
@@ -31,6 +30,7 @@ load_text load.NoImage = codes "no image"
 load_text (load.ManifestWorn sequence) = codes "manifest worn " ++ decimal sequence
 load_text load.ManifestBad = codes "manifest bad"
 load_text load.SizeDiffers = codes "size differs"
+load_text (load.Sealed epoch fault) = codes "sealed " ++ (decimal epoch ++ (codes ": " ++ layer_text fault))
 load_text (load.Stack fault) = stack_text fault
 load_text (load.NoTop epoch reason) = codes "top " ++ (decimal epoch ++ (codes ": " ++ top_text reason))
 load_text load.Failed = codes "disk fault"

@@ -1,5 +1,5 @@
 -- What the image commands do to a disk, and what they print.
-use Rattle.std.specs.Prelude.{◌≡◌, ℕ, ◌+◌, ◌*◌, ◌<◌, ◌≤◌, ◌⊎◌, Bool, false, IsTrue, List, [], ◌∷◌, ◌++◌, length, map, Option, Some, None, IfSome}
+use Rattle.std.specs.Prelude.{◌≡◌, ℕ, ◌+◌, ◌*◌, ◌<◌, ◌≤◌, ◌⊎◌, Bool, false, IsTrue, List, [], ◌∷◌, ◌++◌, length, map, slice_index_or, Option, Some, None, IfSome, ⊤}
 use Rattle.std.specs.Io.KnownBytes.{Appends}
 use Rattle.byte_ports.specs.Ports.{AppendsFront}
 use Rattle.block_disk.specs.DiskState.{DiskState, Files, Leaves}
@@ -7,11 +7,11 @@ use Rattle.gate_mark.specs.MarkFile.{mark_of}
 use Rattle.flat_image.specs.declared.act.Act.{Act}
 use Rattle.flat_image.specs.declared.act.Act.TheVariants as act
 use Rattle.flat_image.specs.declared.act.Asked.{Asked}
-use Rattle.flat_image.specs.declared.act.Asked.TheVariants.{Nothing, Sectors}
+use Rattle.flat_image.specs.declared.act.Asked.TheVariants.{Nothing, Uuid, Sectors}
 use Rattle.flat_image.specs.declared.base.Base.{Base}
-use Rattle.flat_image.specs.Base.{top_size}
+use Rattle.flat_image.specs.Base.{pending_of, top_size}
 use Rattle.flat_image.specs.Entries.{entry, StartsWith}
-use Rattle.flat_image.specs.History.{History, after, reply}
+use Rattle.flat_image.specs.History.{History, after, committed, reply}
 use Rattle.flat_image.specs.History as history
 use Rattle.flat_image.specs.Sectors.{sector_count}
 use Rattle.flat_image.specs.Stacks.{Legal}
@@ -19,6 +19,7 @@ use Rattle.image_core.specs.Numbers.{manifest_file}
 use Rattle.image_core.specs.Shows.{Shows, IsSound, IsUnworn}
 use Rattle.image_core.specs.Creating.{fresh_at}
 use Rattle.image_core.specs.Standing.{ShowsLeft}
+use Rattle.image_core.specs.Sweeping.{AreEmptied}
 use Rattle.tool_setup.specs.declared.command.Command.{Command}
 use Rattle.tool_setup.specs.declared.command.Command.TheVariants.{Flatten, Info, Stack, Create, Grow, Read, Write, Zero, Commit, Sweep, Make, Export}
 use Rattle.layer_commands.specs.Prints.{LayerSheet, AreLayers, heads_of}
@@ -26,7 +27,7 @@ use Rattle.layer_commands.specs.Ports.{Ports}
 use Rattle.layer_shelf.specs.declared.shelves.Shelf as shelves
 use Rattle.byte_ports.specs.declared.ports.Sink as sinks
 use Rattle.block_disk.specs.declared.disk.Disk as disks
-use Rattle.image_commands.specs.ImageReports.{created_line, grown_line, wrote_line, zeroed_line}
+use Rattle.image_commands.specs.ImageReports.{committed_line, created_line, grown_line, swept_line, wrote_line, zeroed_line}
 
 -- a disk at one moment: whether disks of its type tell, what there is to know of it, and its faults so far
 pub record DiskPort : Type 1 where
@@ -74,42 +75,52 @@ Takes (Zero at count) left bytes = bytes ≡ []
 abbrev pub kept_change : Act → List Act
 kept_change change = change ∷ act.Flush ∷ []
 
--- what a command does to the image, act by act
-abbrev pub acts_of : Command → List ℕ → List Act
-acts_of (Flatten stdin) bytes = []
-acts_of (Info number) bytes = []
-acts_of Stack bytes = []
-acts_of (Grow sectors) bytes = act.Grow sectors ∷ []
-acts_of (Commit uuid) bytes = []
-acts_of Sweep bytes = []
-acts_of (Make seed acts) bytes = []
-acts_of (Export connections) bytes = []
-acts_of (Create asked) bytes = []
-acts_of (Read at count) bytes = []
-acts_of (Write at) bytes = kept_change (act.Write at bytes)
-acts_of (Zero at count) bytes = kept_change (act.Zero at count)
+-- a commit freezes the top, where it is not in progress, and then seals
+abbrev pub freeze_acts : List ℕ → Option (List ℕ) → List Act
+freeze_acts uuid None = act.Freeze uuid ∷ []
+freeze_acts uuid (Some own) = []
 
--- what a failed step of a command asked for: a grow its sectors, the others nothing that is named
-abbrev pub asked_by : Command → Asked
-asked_by (Grow sectors) = Sectors sectors
-asked_by (Flatten stdin) = Nothing
-asked_by (Info number) = Nothing
-asked_by Stack = Nothing
-asked_by (Commit uuid) = Nothing
-asked_by Sweep = Nothing
-asked_by (Make seed acts) = Nothing
-asked_by (Export connections) = Nothing
-asked_by (Create sectors) = Nothing
-asked_by (Read at count) = Nothing
-asked_by (Write at) = Nothing
-asked_by (Zero at count) = Nothing
+abbrev pub commit_acts : List ℕ → Option (List ℕ) → List Act
+commit_acts uuid None = act.Freeze uuid ∷ act.Seal uuid ∷ []
+commit_acts uuid (Some own) = act.Seal uuid ∷ []
+
+-- what a command does to an image with that commit in progress or none, act by act
+abbrev pub acts_of : Command → List ℕ → Option (List ℕ) → List Act
+acts_of (Flatten stdin) bytes pending = []
+acts_of (Info number) bytes pending = []
+acts_of Stack bytes pending = []
+acts_of (Grow sectors) bytes pending = act.Grow sectors ∷ []
+acts_of (Commit uuid) bytes pending = commit_acts uuid pending
+acts_of Sweep bytes pending = []
+acts_of (Make seed acts) bytes pending = []
+acts_of (Export connections) bytes pending = []
+acts_of (Create asked) bytes pending = []
+acts_of (Read at count) bytes pending = []
+acts_of (Write at) bytes pending = kept_change (act.Write at bytes)
+acts_of (Zero at count) bytes pending = kept_change (act.Zero at count)
+
+-- what a failed step of a command may have asked for: a grow its sectors, a commit its uuid or, where it copies, nothing that
+-- is named, and the others nothing that is named
+abbrev pub MayAsk : Command → Asked → Type 0
+MayAsk (Grow sectors) asked = asked ≡ Sectors sectors
+MayAsk (Commit uuid) asked = (asked ≡ Nothing) ⊎ (asked ≡ Uuid uuid)
+MayAsk (Flatten stdin) asked = asked ≡ Nothing
+MayAsk (Info number) asked = asked ≡ Nothing
+MayAsk Stack asked = asked ≡ Nothing
+MayAsk Sweep asked = asked ≡ Nothing
+MayAsk (Make seed acts) asked = asked ≡ Nothing
+MayAsk (Export connections) asked = asked ≡ Nothing
+MayAsk (Create sectors) asked = asked ≡ Nothing
+MayAsk (Read at count) asked = asked ≡ Nothing
+MayAsk (Write at) asked = asked ≡ Nothing
+MayAsk (Zero at count) asked = asked ≡ Nothing
 
 -- acts as the entries of a history
 abbrev pub entries : List Act → History
 entries acts = map (λ a. entry 0 a) acts
 
-abbrev pub entries_of : Command → List ℕ → History
-entries_of command bytes = entries (acts_of command bytes)
+abbrev pub entries_of : Command → List ℕ → Option (List ℕ) → History
+entries_of command bytes pending = entries (acts_of command bytes pending)
 
 -- the sector behind the last that a command speaks of
 abbrev pub reach_of : Command → List ℕ → ℕ
@@ -148,21 +159,24 @@ pub record IsNew (asked : Option ℕ) (count : ℕ) (disk : DiskPort) (base : Ba
   pub none : IsTrue disk.tells → mark_of (disk.state.seen manifest_file) ≡ None
   pub fresh : base ≡ fresh_at base.sectors base.lowers base.faults
 
--- an image without commits, which the disk's files show where it tells, with no sequence over 2^61
+-- an image, which the disk's files show where it tells, with no sequence over 2^61
 pub record IsFound (disk : DiskPort) (base : Base) : Type 0 where
   pub shows : IsTrue disk.tells → Shows disk.state.seen base
   pub unworn : (told : IsTrue disk.tells) → IsUnworn disk.state.seen base (shows told)
-  pub none_done : base.done ≡ []
-  pub none_frozen : base.frozen ≡ None
 
--- what a command starts from: a creation from a new image, the others from the one that is found on the disk
+-- no commit but that of the uuid is in progress
+abbrev pub IsFree : List ℕ → Option (List ℕ) → Type 0
+IsFree uuid pending = (pending ≡ None) ⊎ (pending ≡ Some uuid)
+
+-- what a command starts from: a creation from a new image, the others from the one that is found on the
+-- disk, a commit where no other one is in progress
 abbrev pub StartsAt : Command → ℕ → DiskPort → Base → Type 0
 StartsAt (Flatten stdin) layers disk base = ⊥
 StartsAt (Info number) layers disk base = ⊥
 StartsAt Stack layers disk base = ⊥
 StartsAt (Grow sectors) layers disk base = IsFound disk base
-StartsAt (Commit uuid) layers disk base = ⊥
-StartsAt Sweep layers disk base = ⊥
+StartsAt (Commit uuid) layers disk base = IsFound disk base × IsFree uuid (pending_of base.frozen)
+StartsAt Sweep layers disk base = IsFound disk base
 StartsAt (Make seed acts) layers disk base = ⊥
 StartsAt (Export connections) layers disk base = ⊥
 StartsAt (Create asked) layers disk base = IsNew asked layers disk base
@@ -176,6 +190,16 @@ pub record Opens (command : Command) (before : Ports) (disk : DiskPort) (bytes :
   pub over : LiesOver before.files before.count base
   pub starts : StartsAt command before.count disk base
 
+-- the bytes of the file that a commit of an image makes
+abbrev pub committed_size : List ℕ → Base → ℕ
+committed_size uuid base =
+    length (slice_index_or (committed base (entries (commit_acts uuid (pending_of base.frozen)))) (length base.done) [])
+
+-- what a commit prints: its uuid, its epoch and the bytes of its file, which are known where the disk tells
+abbrev pub IsCommitLine : List ℕ → Bool → Base → List ℕ → Type 0
+IsCommitLine uuid tells base text =
+    (size : ℕ) × (text ≡ committed_line uuid (length base.done) size) × (IsTrue tells → size ≡ committed_size uuid base)
+
 -- what a command prints: one line, or the sectors that it read; what these are is known where disk and shelf tell
 abbrev pub IsPrinted : Command → Ports → DiskPort → List ℕ → Base → List ℕ → Type 0
 IsPrinted (Create asked) before disk bytes base text = text ≡ created_line base.sectors before.count
@@ -187,8 +211,8 @@ IsPrinted (Flatten stdin) before disk bytes base text = ⊥
 IsPrinted (Info number) before disk bytes base text = ⊥
 IsPrinted Stack before disk bytes base text = ⊥
 IsPrinted (Grow sectors) before disk bytes base text = text ≡ grown_line sectors
-IsPrinted (Commit uuid) before disk bytes base text = ⊥
-IsPrinted Sweep before disk bytes base text = ⊥
+IsPrinted (Commit uuid) before disk bytes base text = IsCommitLine uuid disk.tells base text
+IsPrinted Sweep before disk bytes base text = text ≡ swept_line (length base.done)
 IsPrinted (Make seed acts) before disk bytes base text = ⊥
 IsPrinted (Export connections) before disk bytes base text = ⊥
 
@@ -212,20 +236,36 @@ pub record Holds (disk : DiskPort) (base : Base) : Type 0 where
   pub reads : IsTrue disk.tells → Shows disk.state.seen base
   pub crash : (files : Files) → Leaves disk.state files → Shows files base
 
+-- after a sweep, where the disk tells, the files of the tops of all committed epochs are empty
+abbrev pub IsSwept : Command → DiskPort → Base → Type 0
+IsSwept Sweep disk base = IsTrue disk.tells → AreEmptied disk.state.seen (length base.done)
+IsSwept (Flatten stdin) disk base = ⊤
+IsSwept (Info number) disk base = ⊤
+IsSwept Stack disk base = ⊤
+IsSwept (Grow sectors) disk base = ⊤
+IsSwept (Commit uuid) disk base = ⊤
+IsSwept (Make seed acts) disk base = ⊤
+IsSwept (Export connections) disk base = ⊤
+IsSwept (Create asked) disk base = ⊤
+IsSwept (Read at count) disk base = ⊤
+IsSwept (Write at) disk base = ⊤
+IsSwept (Zero at count) disk base = ⊤
+
 -- the command did what it is for: the disk shows what all its acts made of the base, and all that it prints was written
 pub record Does (command : Command) (before now : Ports) (disk disk_now : DiskPort) : Type 0 where
   pub bytes : List ℕ
   pub base : Base
   pub opens : Opens command before disk bytes base
   pub within : reach_of command bytes ≤ base.sectors
-  pub holds : Holds disk_now (history.now base (entries_of command bytes))
+  pub holds : Holds disk_now (history.now base (entries_of command bytes (pending_of base.frozen)))
+  pub swept : IsSwept command disk_now base
   pub prints : Prints command before now disk bytes base
 
 -- the history is a beginning of the acts, with a failed step behind it only where the disk's count of faults rose
-pub record IsBegun (acts : History) (asked : Asked) (before now : ℕ) (history : History) : Type 0 where
+pub record IsBegun (acts : History) (asks : Asked → Type 0) (before now : ℕ) (history : History) : Type 0 where
   pub front : History
   pub starts : StartsWith acts front
-  pub is : (history ≡ front) ⊎ ((before < now) × (history ≡ front ++ entry 0 (act.Fault asked) ∷ []))
+  pub is : (history ≡ front) ⊎ ((before < now) × ((asked : Asked) × asks asked × (history ≡ front ++ entry 0 (act.Fault asked) ∷ [])))
 
 -- The image was opened, or made, and acts on it were begun: a crash leaves what it leaves of these. A front of what the
 -- command prints was written.
@@ -235,6 +275,6 @@ pub record Began (command : Command) (before now : Ports) (disk disk_now : DiskP
   pub opens : Opens command before disk bytes base
   pub within : reach_of command bytes ≤ base.sectors
   pub history : History
-  pub begun : IsBegun (entries_of command bytes) (asked_by command) disk.faults disk_now.faults history
+  pub begun : IsBegun (entries_of command bytes (pending_of base.frozen)) (MayAsk command) disk.faults disk_now.faults history
   pub crash : LeavesOf disk_now base history
   pub prints : PrintsFront command before now disk bytes base

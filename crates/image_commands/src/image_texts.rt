@@ -5,7 +5,9 @@ ghost use Rattle.image_commands.specs.ImageTexts.{image_text, load_text, top_tex
 
 use crate::refusal::ImageRefusal;
 use image_core::LoadFault;
-use layer_commands::{Line, push_head, push_numbered, push_parted, push_refusal, push_stack};
+use layer_commands::{
+    Line, push_head, push_layer, push_numbered, push_parted, push_refusal, push_stack,
+};
 use top_writer::TopReason;
 
 // Puts the text of why the files of a top are none behind the line's bytes, at most 40 bytes.
@@ -48,6 +50,10 @@ fn push_load(line: &mut Line, fault: LoadFault)
         LoadFault::ManifestWorn(sequence) => push_numbered(line, "manifest worn ", sequence),
         LoadFault::ManifestBad => line.push_str("manifest bad"),
         LoadFault::SizeDiffers => line.push_str("size differs"),
+        LoadFault::Sealed { epoch, fault } => {
+            push_parted(line, "sealed ", epoch as u64, ": ");
+            push_layer(line, fault);
+        }
         LoadFault::Stack(fault) => push_stack(line, fault),
         LoadFault::NoTop { epoch, reason } => {
             push_parted(line, "top ", epoch as u64, ": ");

@@ -1,8 +1,8 @@
 //! The commands on an image.
-ghost use Rattle.std.specs.Prelude.{◌≡◌, ℕ, ◌+◌, ◌≤◌, ◌↔◌, List, Option, IsTrue, IfSome, IfErr, IsErrOf, OnOk};
+ghost use Rattle.std.specs.Prelude.{◌≡◌, ◌≢◌, ℕ, ◌+◌, ◌≤◌, ◌↔◌, List, Option, IsTrue, IfSome, IfErr, IsErrOf, OnOk};
 ghost use Rattle.sector_extent.specs.Causes.{Charges};
-ghost use Rattle.lsmt_header.specs.Blocks.{IsSize};
-ghost use Rattle.tool_setup.specs.declared.command.Command.TheVariants.{Create, Grow, Read, Write, Zero};
+ghost use Rattle.lsmt_header.specs.Blocks.{IsSize, nil};
+ghost use Rattle.tool_setup.specs.declared.command.Command.TheVariants.{Commit, Create, Grow, Read, Sweep, Write, Zero};
 ghost use Rattle.layer_commands.specs.declared.refusal.Refusal.TheVariants as refused;
 ghost use Rattle.layer_commands.specs.Input.{TakesSectors};
 ghost use Rattle.layer_commands.specs.Ports.{TakesAtMost, ports_of};
@@ -11,12 +11,14 @@ ghost use Rattle.image_commands.specs.Images.{Does, IsInput, beside, disk_port};
 ghost use Rattle.image_commands.specs.ImageCauses.{CommandCause};
 
 use crate::changing::{write_told, zero_told};
+use crate::committing::commit_told;
 use crate::copying::{copy_sectors, extent_of};
 use crate::growing::grow_told;
 use crate::making::make_image;
 use crate::opening::open_image;
 use crate::reading::read_sectors;
 use crate::refusal::{ImageRefusal, as_command};
+use crate::sweeping::sweep_told;
 use block_disk::Disk;
 use byte_ports::{Sink, Source};
 use layer_commands::{Refusal, write_text};
@@ -236,4 +238,65 @@ pub fn create_image<B: Sink, S: Shelf, D: Disk>(
         }
         Err((disk, refusal)) => (Err(ImageRefusal::Other(refusal)), disk),
     }
+}
+
+/// Commits what was written since the last commit as a layer with this uuid, and tells of it. It goes on
+/// where that commit is in progress.
+pub fn commit_image<B: Sink, S: Shelf, D: Disk>(
+    alloc: Global,
+    uuid: [u8; 16],
+    shelf: &mut S,
+    disk: D,
+    out: &mut B,
+) -> (Result<(), ImageRefusal>, D)
+    requires { uuid ≢ nil }
+    ensures done { (left left_now : Option (List ℕ)) (source source_now : ℕ)
+        → OnOk result.0 (Does (Commit uuid)
+        (beside left source B.Sink S.Shelf out.old shelf.old)
+        (beside left_now source_now B.Sink S.Shelf out.new shelf.new)
+        (disk_port D.Disk disk) (disk_port D.Disk result.1)) }
+    ensures refused { (left left_now : Option (List ℕ)) (source source_now : ℕ)
+        → IfErr result.0 (CommandCause (Commit uuid)
+        (beside left source B.Sink S.Shelf out.old shelf.old)
+        (beside left_now source_now B.Sink S.Shelf out.new shelf.new)
+        (disk_port D.Disk disk) (disk_port D.Disk result.1)) }
+    ensures disk_cause { Charges D.faults disk result.1 (IsErrOf result.0 (Other refused.DiskFault)) }
+    ensures shelf_cause { Charges S.faults shelf.old shelf.new (IsErrOf result.0 (Other refused.ShelfFault)) }
+    ensures sink_cause { Charges B.faults out.old out.new (IsErrOf result.0 (Other refused.SinkFault)) }
+{
+    let mut image = match open_image(alloc, shelf, disk) {
+        Ok(image) => image,
+        Err((disk, refusal)) => return (Err(refusal), disk),
+    };
+    let result = commit_told(alloc, &mut image, uuid, out);
+    (as_command(result), image.into_disk())
+}
+
+/// Empties the files of the tops that became layers of the image, and tells of it.
+pub fn sweep_image<B: Sink, S: Shelf, D: Disk>(
+    alloc: Global,
+    shelf: &mut S,
+    disk: D,
+    out: &mut B,
+) -> (Result<(), ImageRefusal>, D)
+    ensures done { (left left_now : Option (List ℕ)) (source source_now : ℕ)
+        → OnOk result.0 (Does Sweep
+        (beside left source B.Sink S.Shelf out.old shelf.old)
+        (beside left_now source_now B.Sink S.Shelf out.new shelf.new)
+        (disk_port D.Disk disk) (disk_port D.Disk result.1)) }
+    ensures refused { (left left_now : Option (List ℕ)) (source source_now : ℕ)
+        → IfErr result.0 (CommandCause Sweep
+        (beside left source B.Sink S.Shelf out.old shelf.old)
+        (beside left_now source_now B.Sink S.Shelf out.new shelf.new)
+        (disk_port D.Disk disk) (disk_port D.Disk result.1)) }
+    ensures disk_cause { Charges D.faults disk result.1 (IsErrOf result.0 (Other refused.DiskFault)) }
+    ensures shelf_cause { Charges S.faults shelf.old shelf.new (IsErrOf result.0 (Other refused.ShelfFault)) }
+    ensures sink_cause { Charges B.faults out.old out.new (IsErrOf result.0 (Other refused.SinkFault)) }
+{
+    let mut image = match open_image(alloc, shelf, disk) {
+        Ok(image) => image,
+        Err((disk, refusal)) => return (Err(refusal), disk),
+    };
+    let result = sweep_told(&mut image, out);
+    (as_command(result), image.into_disk())
 }

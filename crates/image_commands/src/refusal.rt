@@ -38,6 +38,7 @@ pub fn load_refusal(fault: LoadFault) -> ImageRefusal
         | LoadFault::ManifestWorn(_)
         | LoadFault::ManifestBad
         | LoadFault::SizeDiffers
+        | LoadFault::Sealed { .. }
         | LoadFault::Stack(_)
         | LoadFault::NoTop { .. } => ImageRefusal::Load(fault),
     }

@@ -8,7 +8,7 @@ use Rattle.layer_stack.specs.declared.fault.StackFault.TheVariants as stack
 use Rattle.sealed_layer.specs.declared.fault.LayerFault.{LayerFault}
 use Rattle.sealed_layer.specs.declared.fault.LayerFault.TheVariants as file
 use Rattle.layer_commands.specs.declared.refusal.Refusal.{Refusal}
-use Rattle.layer_commands.specs.declared.refusal.Refusal.TheVariants.{Usage, SourceFault, SinkFault, ShelfFault, Memory, TooLong, NoLayer, Layer, Stack, DiskFault, NoSize, OtherSize, ImageExists, NotWholeSectors, OutOfRange, Full, Busy, NotLarger}
+use Rattle.layer_commands.specs.declared.refusal.Refusal.TheVariants.{Usage, SourceFault, SinkFault, ShelfFault, Memory, TooLong, NoLayer, Layer, Stack, DiskFault, NoSize, OtherSize, ImageExists, NotWholeSectors, OutOfRange, Full, Busy, NotLarger, TooManyLayers, UuidTwice}
 
 -- a uuid in lower case with hyphens
 abbrev pub uuid_text : List ℕ → List ℕ
@@ -64,6 +64,8 @@ text_of OutOfRange = codes "out of range"
 text_of (Full rows sectors) = codes "full " ++ (decimal rows ++ (codes " " ++ decimal sectors))
 text_of (Busy uuid) = codes "busy " ++ uuid_text uuid
 text_of (NotLarger sectors) = codes "not larger " ++ decimal sectors
+text_of TooManyLayers = codes "too many layers"
+text_of UuidTwice = codes "uuid twice"
 
 abbrev pub code_of : Refusal → ℕ
 code_of Usage = 2
@@ -84,6 +86,8 @@ code_of OutOfRange = 6
 code_of (Full rows sectors) = 6
 code_of (Busy uuid) = 6
 code_of (NotLarger sectors) = 6
+code_of TooManyLayers = 6
+code_of UuidTwice = 6
 
 -- the line that a refusal with that text prints
 abbrev pub line_of : List ℕ → List ℕ

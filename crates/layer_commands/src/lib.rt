@@ -12,8 +12,6 @@ mod reports;
 mod running;
 mod runs;
 mod stacks;
-#[cfg(test)]
-mod tests;
 mod texts;
 
 pub use commands::{flatten_shelf, print_head, print_stack, stack_sectors, write_text};

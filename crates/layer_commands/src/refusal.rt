@@ -45,6 +45,10 @@ pub enum Refusal {
     Busy([u8; 16]),
     /// The image has so many sectors, and no more were asked for.
     NotLarger(u64),
+    /// The image has 255 layers.
+    TooManyLayers,
+    /// A layer of the image has the uuid.
+    UuidTwice,
 }
 
 impl From<AllocError> for Refusal {
@@ -87,7 +91,9 @@ impl Refusal {
             | Refusal::OutOfRange
             | Refusal::Full { .. }
             | Refusal::Busy(_)
-            | Refusal::NotLarger(_) => 6,
+            | Refusal::NotLarger(_)
+            | Refusal::TooManyLayers
+            | Refusal::UuidTwice => 6,
         }
     }
 }

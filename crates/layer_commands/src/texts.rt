@@ -93,5 +93,7 @@ pub fn push_refusal(line: &mut Line, refusal: Refusal)
         Refusal::Full { rows, sectors } => push_pair(line, "full ", rows, " ", sectors),
         Refusal::Busy(uuid) => push_named(line, "busy ", uuid),
         Refusal::NotLarger(sectors) => push_numbered(line, "not larger ", sectors),
+        Refusal::TooManyLayers => line.push_str("too many layers"),
+        Refusal::UuidTwice => line.push_str("uuid twice"),
     }
 }

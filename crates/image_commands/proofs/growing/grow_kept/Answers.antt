@@ -1,4 +1,4 @@
-use Rattle.std.proofs.Common.{◌≡◌, refl, ap}
+use Rattle.std.proofs.Common.{refl, ap}
 use Rattle.flat_image.specs.declared.act.Act.TheVariants as act
 use Rattle.top_writer.proofs.QuietLaws.{quiet_none}
 use Rattle.image_commands.proofs.ImageAdds.{adds-act}

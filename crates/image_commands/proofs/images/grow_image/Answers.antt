@@ -1,4 +1,4 @@
-use Rattle.std.proofs.Common.{◌≡◌, ℕ, ◌≤◌, [], refl, arith}
+use Rattle.std.proofs.Common.{[], refl, arith}
 use Rattle.std.proofs.KnownBytes.{Keeps-refl}
 use Rattle.tool_setup.specs.declared.command.Command.TheVariants.{Grow}
 use Rattle.image_core.specs.Seen.{Seen}

@@ -1,5 +1,5 @@
 use Rattle.std.proofs.Common.{◌≡◌, ℕ, ◌+◌, ◌<◌, ◌≤◌, [], refl, subst, arith}
-use Rattle.std.specs.Prelude.{Some, OnOk, IfErr}
+use Rattle.std.specs.Prelude.{OnOk, IfErr}
 use Rattle.std.specs.Io.KnownBytes.{Appends}
 use Rattle.std.proofs.KnownBytes.{Keeps-refl}
 use Rattle.flat_image.specs.declared.act.Act.TheVariants as act
@@ -36,7 +36,7 @@ returns-clause-done g c =
     (subst (λ (a : ℕ). OnOk c.write_told-result.result (Adds (entries (kept_change (act.Write a c.args.bytes.now))) old new)) place c.write_told-result.ensures.adds) in
     let told = subst (λ (n : ℕ). OnOk c.write_told-result.result (Appends before.written now.written (wrote_line c.args.at n))) many
     (subst (λ (a : ℕ). OnOk c.write_told-result.result (Appends before.written now.written (wrote_line a c.extent_of.result.count))) place c.write_told-result.ensures.told) in
-    rw (c.as_command.ensures, c.into_disk-2.ensures) (ok-told c.write_told-result.result _ (change-done (Write c.args.at) (c.args.bytes.now) (wrote_line c.args.at (sector_count c.args.bytes.now)) (act.Write c.args.at c.args.bytes.now) before now disk old new opened.0 refl tt refl refl opens inside opened.3 refl part c.write_told-result.result
+    rw (c.as_command.ensures, c.into_disk-2.ensures) (ok-told c.write_told-result.result _ (change-done (Write c.args.at) (c.args.bytes.now) (wrote_line c.args.at (sector_count c.args.bytes.now)) (act.Write c.args.at c.args.bytes.now) before now disk old new opened.0 refl tt refl refl tt opens inside opened.3 refl part c.write_told-result.result
     (λ tells f. g.met.D.Disk.seen_may_stay c.write_told-result.new.image.disk f tells) adds told))
 
 pub returns-clause-refused : goal.returns-clause-refused
@@ -54,7 +54,7 @@ returns-clause-refused g c =
     let opens : Opens (Write c.args.at) before disk (c.args.bytes.now) opened.0 = record { takes = (whole, c.requires); over = opened.1; starts = opened.2 } in
     let cause = subst (λ (n : ℕ). IfErr c.write_told-result.result (TellCause (act.Write c.args.at c.args.bytes.now) (wrote_line c.args.at n) old new before.sink_faults now.sink_faults before.written now.written)) many
     (subst (λ (a : ℕ). IfErr c.write_told-result.result (TellCause (act.Write a c.args.bytes.now) (wrote_line a c.extent_of.result.count) old new before.sink_faults now.sink_faults before.written now.written)) place c.write_told-result.ensures.refused) in
-    rw (c.as_command.ensures, c.into_disk-2.ensures) (err-told c.write_told-result.result (CommandCause (Write c.args.at) before now disk (port_of new)) (change-failed (Write c.args.at) (c.args.bytes.now) (wrote_line c.args.at (sector_count c.args.bytes.now)) (act.Write c.args.at c.args.bytes.now) before now disk old new opened.0 refl tt refl refl opens inside opened.3 refl part c.write_told-result.result
+    rw (c.as_command.ensures, c.into_disk-2.ensures) (err-told c.write_told-result.result (CommandCause (Write c.args.at) before now disk (port_of new)) (change-failed (Write c.args.at) (c.args.bytes.now) (wrote_line c.args.at (sector_count c.args.bytes.now)) (act.Write c.args.at c.args.bytes.now) before now disk old new opened.0 refl tt refl refl tt opens inside opened.3 refl part c.write_told-result.result
     before.sink_faults (let e = c.in-Ok.ensures.cause in omega (arith, e)) (omega arith) cause))
 
 pub returns-then-not-is_within-clause-refused : goal.returns-then-not-is_within-clause-refused

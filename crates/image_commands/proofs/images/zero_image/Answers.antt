@@ -1,5 +1,5 @@
 use Rattle.std.proofs.Common.{◌≡◌, ℕ, ◌+◌, ◌≤◌, ◌<◌, [], refl, subst, arith}
-use Rattle.std.specs.Prelude.{Some, OnOk, IfErr}
+use Rattle.std.specs.Prelude.{OnOk, IfErr}
 use Rattle.std.specs.Io.KnownBytes.{Appends}
 use Rattle.flat_image.specs.declared.act.Act.TheVariants as act
 use Rattle.std.proofs.KnownBytes.{Keeps-refl}
@@ -35,7 +35,7 @@ returns-clause-done g c =
     (subst (λ (a : ℕ). OnOk c.zero_told-result.result (Adds (entries (kept_change (act.Zero a c.extent_of.result.count))) old new)) place c.zero_told-result.ensures.adds) in
     let told = subst (λ (n : ℕ). OnOk c.zero_told-result.result (Appends before.written now.written (zeroed_line c.args.at n))) many
     (subst (λ (a : ℕ). OnOk c.zero_told-result.result (Appends before.written now.written (zeroed_line a c.extent_of.result.count))) place c.zero_told-result.ensures.told) in
-    rw (c.as_command.ensures, c.into_disk-2.ensures) (ok-told c.zero_told-result.result _ (change-done (Zero c.args.at c.args.count) ([]) (zeroed_line c.args.at c.args.count) (act.Zero c.args.at c.args.count) before now disk old new opened.0 refl tt refl refl opens inside opened.3 refl tt c.zero_told-result.result
+    rw (c.as_command.ensures, c.into_disk-2.ensures) (ok-told c.zero_told-result.result _ (change-done (Zero c.args.at c.args.count) ([]) (zeroed_line c.args.at c.args.count) (act.Zero c.args.at c.args.count) before now disk old new opened.0 refl tt refl refl tt opens inside opened.3 refl tt c.zero_told-result.result
     (λ tells f. g.met.D.Disk.seen_may_stay c.zero_told-result.new.image.disk f tells) adds told))
 
 pub returns-clause-refused : goal.returns-clause-refused
@@ -53,7 +53,7 @@ returns-clause-refused g c =
     let opens : Opens (Zero c.args.at c.args.count) before disk ([]) opened.0 = record { takes = refl; over = opened.1; starts = opened.2 } in
     let cause = subst (λ (n : ℕ). IfErr c.zero_told-result.result (TellCause (act.Zero c.args.at n) (zeroed_line c.args.at n) old new before.sink_faults now.sink_faults before.written now.written)) many
     (subst (λ (a : ℕ). IfErr c.zero_told-result.result (TellCause (act.Zero a c.extent_of.result.count) (zeroed_line a c.extent_of.result.count) old new before.sink_faults now.sink_faults before.written now.written)) place c.zero_told-result.ensures.refused) in
-    rw (c.as_command.ensures, c.into_disk-2.ensures) (err-told c.zero_told-result.result (CommandCause (Zero c.args.at c.args.count) before now disk (port_of new)) (change-failed (Zero c.args.at c.args.count) ([]) (zeroed_line c.args.at c.args.count) (act.Zero c.args.at c.args.count) before now disk old new opened.0 refl tt refl refl opens inside opened.3 refl tt c.zero_told-result.result
+    rw (c.as_command.ensures, c.into_disk-2.ensures) (err-told c.zero_told-result.result (CommandCause (Zero c.args.at c.args.count) before now disk (port_of new)) (change-failed (Zero c.args.at c.args.count) ([]) (zeroed_line c.args.at c.args.count) (act.Zero c.args.at c.args.count) before now disk old new opened.0 refl tt refl refl tt opens inside opened.3 refl tt c.zero_told-result.result
     before.sink_faults (let e = c.in-Ok.ensures.cause in omega (arith, e)) (omega arith) cause))
 
 pub returns-then-not-is_within-clause-refused : goal.returns-then-not-is_within-clause-refused

@@ -1,4 +1,4 @@
-use Rattle.std.proofs.Common.{◌≡◌, ◌%◌, ◌≤◌, length, vec_len, rules}
+use Rattle.std.proofs.Common.{rules}
 use Rattle.image_commands.proofs.reading.read_sectors.Goals as goal
 
 pub returns-else-len-ne0-clause-taken : goal.returns-else-len-ne0-clause-taken
