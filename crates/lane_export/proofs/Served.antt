@@ -56,12 +56,12 @@ module _ {P X L : Type 0} (port : X → PortState) (listener : X → L) (first :
   homes-ran home (p ∷ ps) old new many same dealt firsts ran k d lt =
       ran k d (omega (arith, lt, same)) ∙ (ap (λ (s : PortState). s.home) (dealt k p d (omega (arith, lt, same, many))).0 ∙ firsts k (get_or (p ∷ ps) k p))
 
-get_map : {X Y : Type 0} (f : X → Y) (xs : List X) (k : ℕ) (d : X) → get_or (map f xs) k (f d) ≡ f (get_or xs k d)
+pub get_map : {X Y : Type 0} (f : X → Y) (xs : List X) (k : ℕ) (d : X) → get_or (map f xs) k (f d) ≡ f (get_or xs k d)
 get_map f [] k d = refl
 get_map f (x ∷ xs) zero d = refl
 get_map f (x ∷ xs) (suc k) d = get_map f xs k d
 
-get_any : {X : Type 0} (xs : List X) (k : ℕ) (d e : X) → k < length xs → get_or xs k d ≡ get_or xs k e
+pub get_any : {X : Type 0} (xs : List X) (k : ℕ) (d e : X) → k < length xs → get_or xs k d ≡ get_or xs k e
 get_any [] k d e lt = absurd (omega (arith, lt))
 get_any (x ∷ xs) zero d e lt = refl
 get_any (x ∷ xs) (suc k) d e lt = get_any xs k d e (omega (arith, lt))

@@ -26,9 +26,6 @@ use std::sync::Wait;
 use std::thread;
 use std::thread::Threads;
 
-/// Lanes: the shelf and the listener of each.
-pub type LaneList<S, L> = ListOf<(S, L)>;
-
 // A lane that runs: what one thread has.
 #[derive(Drop)]
 struct Lane<'a, D: Disk, S: Shelf, L, R> {

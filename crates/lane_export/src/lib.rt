@@ -1,8 +1,18 @@
-//! The export of an image: lanes in threads, each with a listener, a shelf and a seat of its own.
+//! The export of an image: lanes in threads, each with a listener, a shelf and a seat of its own, over
+//! one image and one cache.
 #![tactic(auto)]
 
+mod cached_lanes;
+mod caching;
 mod export_end;
+mod exporting;
+mod harbour;
 mod lanes;
+mod opening;
+mod parts;
 
 pub use export_end::ExportEnd;
-pub use lanes::{LaneList, export_image};
+pub use exporting::{Status, run_export};
+pub use harbour::Harbour;
+pub use lanes::export_image;
+pub use parts::{LaneList, Parts, Settings};

@@ -10,20 +10,20 @@ returns-in_default-clause-later g n c = later-self c.args.control.now
 
 pub gather-failed-requires-clause-homes : goal.gather-failed-requires-clause-homes
 gather-failed-requires-clause-homes g n c κs bounds =
-    all-front (λ (lane : Lane g.row.D.Denot g.row.S.Denot g.row.L.Denot g.row.R.Denot g.S.Shelf). home_of lane.reader.seat.lock ≡ home_of c.args.image.now.id) c.args.lanes.items c.pop.new.self.items c.in-Some.lane c.in-Some.ensures.items c.requires.homes
+    all-front (λ (lane : Lane g.row.D.Denot g.row.S.Denot g.row.L.Denot g.row.R.Denot g.S.Shelf). home_of lane.reader.layers.seat.lock ≡ home_of c.args.image.now.id) c.args.lanes.items c.pop.new.self.items c.in-Some.lane c.in-Some.ensures.items c.requires.homes
 
 pub meet-requires : goal.meet-requires
 meet-requires g n c = record {
   lock = (
     one-home c.into_parts-seat.result.0.lock c.args.image.now.id (sym c.into_parts-seat.ensures.seat.home
-        ∙ all-last (λ (lane : Lane g.row.D.Denot g.row.S.Denot g.row.L.Denot g.row.R.Denot g.S.Shelf). home_of lane.reader.seat.lock ≡ home_of c.args.image.now.id) c.args.lanes.items c.pop.new.self.items c.in-Some.lane c.in-Some.ensures.items c.requires.homes),
+        ∙ all-last (λ (lane : Lane g.row.D.Denot g.row.S.Denot g.row.L.Denot g.row.R.Denot g.S.Shelf). home_of lane.reader.layers.seat.lock ≡ home_of c.args.image.now.id) c.args.lanes.items c.pop.new.self.items c.in-Some.lane c.in-Some.ensures.items c.requires.homes),
     c.gather-failed.ensures.same.lock ∙ c.requires.control.lock_is,
   );
 }
 
 pub returns-clause-each : goal.returns-clause-each
 returns-clause-each g n c =
-    gathered-joined (λ (lane : Lane g.row.D.Denot g.row.S.Denot g.row.L.Denot g.row.R.Denot g.S.Shelf). seat_port (g.D.Disk.tells && is_some (g.S.Shelf.files lane.reader.shelf)) lane.reader.image.now lane.reader.seat (g.S.Shelf.faults lane.reader.shelf)) (λ (lane : Lane g.row.D.Denot g.row.S.Denot g.row.L.Denot g.row.R.Denot g.S.Shelf). lane.listener) (λ (number : ℕ) (pair : g.row.S.Denot × g.row.L.Denot). first_port (g.D.Disk.tells && is_some (g.S.Shelf.files pair.0)) c.args.image.now number (g.S.Shelf.faults pair.0)) (λ (pair : g.row.S.Denot × g.row.L.Denot). pair.1) c.meet.new.to.seen c.gather-failed.new.control.seen c.args.lanes.items c.pop.new.self.items c.push_reserved.new.self.items c.gather-failed.new.seats.items c.in-Some.lane c.into_parts-seat.result.0 c.meet.new.from
+    gathered-joined (λ (lane : Lane g.row.D.Denot g.row.S.Denot g.row.L.Denot g.row.R.Denot g.S.Shelf). seat_port (g.D.Disk.tells && is_some (g.S.Shelf.files lane.reader.layers.shelf)) lane.reader.layers.image.now lane.reader.layers.seat (g.S.Shelf.faults lane.reader.layers.shelf)) (λ (lane : Lane g.row.D.Denot g.row.S.Denot g.row.L.Denot g.row.R.Denot g.S.Shelf). lane.listener) (λ (number : ℕ) (pair : g.row.S.Denot × g.row.L.Denot). first_port (g.D.Disk.tells && is_some (g.S.Shelf.files pair.0)) c.args.image.now number (g.S.Shelf.faults pair.0)) (λ (pair : g.row.S.Denot × g.row.L.Denot). pair.1) c.meet.new.to.seen c.gather-failed.new.control.seen c.args.lanes.items c.pop.new.self.items c.push_reserved.new.self.items c.gather-failed.new.seats.items c.in-Some.lane c.into_parts-seat.result.0 c.meet.new.from
     c.in-Some.ensures.items c.push_reserved.ensures.items c.meet.ensures.from c.gather-failed.ensures.each c.meet.ensures.later.seen _ c.into_parts-seat.ensures.seat c.meet.ensures.seen
 
 pub returns-clause-later : goal.returns-clause-later

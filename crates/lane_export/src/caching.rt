@@ -1,0 +1,101 @@
+//! Shelves of lanes with one cache round them.
+ghost use Rattle.std.specs.Prelude.{◌≡◌, ◌+◌, ◌<◌, ◌≤◌, [], ◌++◌, length, map, vec_capacity, All, IfOk, MatchBool};
+ghost use Rattle.turn_lock.specs.Locks.{AreSeats};
+ghost use Rattle.lane_export.specs.Caching.{bare};
+
+use block_cache::{Cache, CacheBase, CacheSeat, SharedCache};
+use flat_image::Named;
+use layer_shelf::Shelf;
+use range_shelf::CachedShelf;
+use sector_extent::Memory;
+use std::alloc::Global;
+use std::sync::Wait;
+
+/// An empty cache of so many blocks over the files of the shelf, with its seats.
+pub(crate) fn start_cache<N: Named<CacheBase>, S: Shelf>(
+    alloc: Global,
+    blocks: u32,
+    seats: u32,
+    shelf: &S,
+) -> Result<(SharedCache, Vec<CacheSeat>), Memory>
+    requires capacity { N.it.capacity ≡ blocks }
+    requires files { N.it.files ≡ S.files shelf.now }
+    requires blocks { (1 ≤ blocks) × (blocks ≤ 16384) }
+    requires seats { 0 < seats }
+    ensures files { IfOk result (λ made. made.0.base.files ≡ S.files shelf.now) }
+    ensures seats { IfOk result (λ made. AreSeats made.0.id seats made.1.items) }
+{
+    let _ = shelf;
+    let Ok(cache) = Cache::new(alloc, blocks) else {
+        return Err(Memory);
+    };
+    match SharedCache::start::<N>(alloc, cache, seats, 0) {
+        Ok((cache, list)) => Ok((cache, list.into_vec())),
+        Err((_, memory)) => Err(memory),
+    }
+}
+
+/// Takes the cache away from shelves, and puts them behind those that are there.
+pub(crate) fn uncached<'a, S: Shelf + Drop, L: Drop, R: Wait>(
+    cached: &mut Vec<(CachedShelf<'a, S, R>, L)>,
+    plain: &mut Vec<(S, L)>,
+)
+    requires room { length plain.old.items + length cached.old.items ≤ vec_capacity plain.old }
+    ensures items { plain.new.items ≡ plain.old.items ++ map bare cached.old.items }
+    ensures room { vec_capacity plain.new ≡ vec_capacity plain.old }
+    ensures none { cached.new.items ≡ [] }
+    ensures cached_room { vec_capacity cached.new ≡ vec_capacity cached.old }
+{
+    let Some((shelf, listener)) = cached.pop() else {
+        return;
+    };
+    uncached(cached, plain);
+    let (shelf, _seat) = shelf.into_parts();
+    plain.push_reserved((shelf, listener));
+}
+
+/// Puts the cache round the shelves, and answers whether there was memory for all. Where there was not,
+/// they come back as they were.
+pub(crate) fn cache_all<'a, S: Shelf + Drop, L: Drop, R: Wait>(
+    rt: &'a R,
+    alloc: Global,
+    cache: &'a SharedCache,
+    seats: Vec<CacheSeat>,
+    pairs: Vec<(S, L)>,
+    cached: &mut Vec<(CachedShelf<'a, S, R>, L)>,
+    plain: &mut Vec<(S, L)>,
+) -> bool
+    requires seats { AreSeats cache.now.id (length pairs.items) seats.items }
+    requires files { All (λ pair. cache.now.base.files ≡ S.files pair.0) pairs.items }
+    requires cached_room { (cached.old.items ≡ []) × (length pairs.items ≤ vec_capacity cached.old) }
+    requires plain_room { (plain.old.items ≡ []) × (length pairs.items ≤ vec_capacity plain.old) }
+    ensures room { (vec_capacity cached.new ≡ vec_capacity cached.old)
+        × (vec_capacity plain.new ≡ vec_capacity plain.old) }
+    ensures all { MatchBool result
+        ((map bare cached.new.items ≡ pairs.items) × (plain.new.items ≡ []))
+        ((plain.new.items ≡ pairs.items) × (cached.new.items ≡ [])) }
+{
+    let mut seats = seats;
+    let mut pairs = pairs;
+    let Some((shelf, listener)) = pairs.pop() else {
+        return true;
+    };
+    let Some(seat) = seats.pop() else {
+        unreachable!()
+    };
+    if !cache_all(rt, alloc, cache, seats, pairs, cached, plain) {
+        plain.push_reserved((shelf, listener));
+        return false;
+    }
+    match CachedShelf::new(rt, alloc, shelf, cache, seat) {
+        Ok(shelf) => {
+            cached.push_reserved((shelf, listener));
+            true
+        }
+        Err((shelf, _, _)) => {
+            uncached(cached, plain);
+            plain.push_reserved((shelf, listener));
+            false
+        }
+    }
+}

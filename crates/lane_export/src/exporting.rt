@@ -1,0 +1,147 @@
+//! The command that serves an image.
+ghost use Rattle.std.specs.Prelude.{◌≡◌, ◌⊎◌, false, map, string_bytes, length, Some, None, IsSome, IfSome, IfOk, IfErr, All};
+ghost use Rattle.layer_commands.specs.declared.refusal.Refusal.TheVariants as refused;
+ghost use Rattle.tool_setup.specs.Words.{command_of};
+ghost use Rattle.lane_serve.specs.Listeners.{IsFresh};
+ghost use Rattle.lane_export.specs.Exporting.{HaveSameFiles, HasExported, RunsWords, connections_if};
+ghost use Rattle.lane_export.specs.declared.parts.Parts.{Parts};
+
+use crate::harbour::Harbour;
+use crate::opening::export_disk;
+use crate::parts::{LaneList, Parts, Settings};
+use block_disk::Disk;
+use lane_serve::Listener;
+use layer_commands::Refusal;
+use layer_shelf::Shelf;
+use nbd_session::{Export, Served};
+use std::alloc::Global;
+use std::sync::Wait;
+use std::thread::Threads;
+use tool_setup::{Command, WordList, WordsFault, read_words};
+
+/// How an export ends: 0 where all lanes were served and the last flush was made, else 2 to 6.
+#[derive(Clone, Copy, Debug, PartialEq, Eq)]
+pub struct Status {
+    pub code: u8,
+}
+
+// How many connections each lane serves. Words that are no export are a faulty command line.
+fn read_connections(alloc: Global, words: &WordList) -> Result<u64, Refusal>
+    ensures ok { IfOk result (λ connections.
+        connections_if (command_of (map string_bytes words.now)) ≡ Some connections) }
+    ensures err { IfErr result (λ refusal. (refusal ≡ refused.Memory)
+        ⊎ ((refusal ≡ refused.Usage) × (connections_if (command_of (map string_bytes words.now)) ≡ None))) }
+{
+    match read_words(alloc, words) {
+        Ok(Command::Export { connections }) => Ok(connections),
+        Ok(_) => Err(Refusal::Usage),
+        Err(WordsFault::Memory) => Err(Refusal::Memory),
+        Err(_) => Err(Refusal::Usage),
+    }
+}
+
+// Serves the image of these parts, and answers the status.
+fn export_parts<
+    D: Disk + Send + Drop,
+    S: Shelf + Send + Drop,
+    L: Listener<E = Served> + Send + Drop,
+    A,
+    B,
+    R: Threads + Wait + Sync,
+>(
+    rt: &R,
+    alloc: Global,
+    export: &Export,
+    settings: Settings,
+    connections: u64,
+    parts: Parts<D, S, L, A, B>,
+) -> (Parts<D, S, L, A, B>, u8)
+    requires same { HaveSameFiles S.files S.count parts.control_shelf parts.lanes }
+    requires fresh { All (λ pair. IsFresh (L.told pair.1)) parts.lanes }
+    ensures control { (result.0.control_source ≡ parts.control_source)
+        × (result.0.control_sink ≡ parts.control_sink) }
+    ensures exports { HasExported
+        (record {
+          left = L.A.left;
+          reads = L.A.faults;
+          written = L.B.written;
+          writes = L.B.faults;
+          takes = false;
+          export = export.entry.now;
+        })
+        D.Disk S.Shelf L.told L.faults parts.disk result.0.disk parts.control_shelf result.0.control_shelf
+        parts.lanes result.0.lanes connections result.1 }
+{
+    let Parts {
+        disk,
+        lanes,
+        control_shelf,
+        control_source,
+        control_sink,
+    } = parts;
+    let (disk, control_shelf, lanes, code) = export_disk(
+        rt,
+        alloc,
+        export,
+        settings,
+        connections,
+        disk,
+        control_shelf,
+        lanes.into_vec(),
+    );
+    let parts = Parts {
+        disk,
+        lanes: LaneList::from_vec(lanes),
+        control_shelf,
+        control_source,
+        control_sink,
+    };
+    (parts, code)
+}
+
+/// Does `export`: opens the image on the harbour's disk over the layers of the control's shelf, serves
+/// its lanes with one cache round their shelves, makes a last flush, and gives the parts back. The
+/// control's stream is not served.
+pub fn run_export<W: Harbour, R: Threads + Wait + Sync>(
+    rt: &R,
+    alloc: Global,
+    words: &WordList,
+    harbour: &mut W,
+) -> Status
+    requires home { IsSome (W.home harbour.old) }
+    requires same { IfSome (W.home harbour.old) (λ parts.
+        HaveSameFiles W.S.files W.S.count parts.control_shelf parts.lanes) }
+    requires fresh { IfSome (W.home harbour.old) (λ parts. All (λ pair. IsFresh (W.L.told pair.1)) parts.lanes) }
+    ensures home { IsSome (W.home harbour.new) }
+    ensures kept { (W.set_to harbour.new ≡ W.set_to harbour.old) × (W.exported harbour.new ≡ W.exported harbour.old) }
+    ensures runs { RunsWords (connections_if (command_of (map string_bytes words.now))) (harbour.new ≡ harbour.old)
+        (λ connections. (W.end harbour.new ≡ None) × IfSome (W.home harbour.old) (λ before.
+        IfSome (W.home harbour.new) (λ after.
+        (after.control_source ≡ before.control_source) × (after.control_sink ≡ before.control_sink)
+        × HasExported
+        (record {
+          left = W.L.A.left;
+          reads = W.L.A.faults;
+          written = W.L.B.written;
+          writes = W.L.B.faults;
+          takes = false;
+          export = W.exported harbour.old;
+        })
+        W.D.Disk W.S.Shelf W.L.told W.L.faults before.disk after.disk before.control_shelf
+        after.control_shelf before.lanes after.lanes connections result.code)))
+        result.code }
+{
+    let connections = match read_connections(alloc, words) {
+        Ok(connections) => connections,
+        Err(refusal) => {
+            return Status {
+                code: refusal.code(),
+            };
+        }
+    };
+    let settings = harbour.settings();
+    let parts = harbour.take();
+    let (parts, code) = export_parts(rt, alloc, harbour.export(), settings, connections, parts);
+    harbour.give_back(parts, None);
+    Status { code }
+}
