@@ -4,18 +4,10 @@
 //! layers.
 #![tactic(auto)]
 
-#[cfg(test)]
-mod image_tests;
-#[cfg(test)]
-mod refusal_tests;
 mod setup;
-#[cfg(test)]
-mod tests;
-mod tool;
 mod words;
 
 use crate::setup::{SetupFault, read_configuration, targets_of};
-use crate::tool::run_tool;
 use crate::words::{Parts, part_words, words_behind};
 use block_disk::{Disk, FolderDisk, MemDisk};
 use byte_ports::{Sink, StdSink, StdSource};
@@ -26,6 +18,7 @@ use sector_extent::{CallList, FileTexts};
 use std::env;
 use std::io::ErrorKind;
 use std::process::ExitCode;
+use tool_run::run_tool;
 use tool_setup::{Config, Lowers, WordList};
 
 fn main(rt: HostRuntime) -> ExitCode {

@@ -1,4 +1,3 @@
-use crate::tool::{Status, run_tool};
 use block_disk::MemDisk;
 use byte_ports::{MemSink, MemSource};
 use layer_shelf::MemShelf;
@@ -6,6 +5,7 @@ use sector_extent::{Bytes, CallList, FileTexts};
 use std::alloc::{AllocError, Global};
 use std::process::Abort;
 use std::test::Fail;
+use tool_run::{Status, run_tool};
 use tool_setup::WordList;
 
 /// Rows (1, 2, place 8) and (2, 1, zeroed).

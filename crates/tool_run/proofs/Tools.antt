@@ -1,16 +1,15 @@
 -- Statuses, and what a run says that was refused or not.
-use Rattle.std.proofs.Common.{◌≡◌, ◌≢◌, ℕ, List, [], length, refl, sym, ap, ◌∙◌, subst, arith, inl, inr}
-use Rattle.std.specs.Prelude.{Option, Some, None, IfSome, ◌⊎◌, Result, Ok, Err, OnOk, IfErr}
+use Rattle.std.proofs.Common.{◌≡◌, ℕ, length, refl, sym, ap, ◌∙◌, subst, arith, inl, inr}
+use Rattle.std.specs.Prelude.{Option, Some, None, IfSome, ◌⊎◌, Result, Err}
 use Rattle.std.specs.Result.{IsErrOf}
-use Rattle.block_disk.specs.Claims.{Quiet}
 use Rattle.tool_setup.specs.declared.command.Command.{Command}
 use Rattle.tool_setup.specs.declared.command.Command.TheVariants.{Flatten, Info, Stack, Create, Grow, Read, Write, Zero, Commit, Sweep, Make, Export}
 use Rattle.layer_commands.specs.declared.refusal.Refusal.{Refusal}
 use Rattle.layer_commands.specs.declared.refusal.Refusal.TheVariants as refused
 use Rattle.layer_commands.specs.Texts.{code_of}
 use Rattle.layer_commands.specs.Ports.{Ports}
-use Rattle.layer_commands.specs.Prints.{Prints, read_by}
-use Rattle.layer_commands.specs.Causes.{AreCharged, Cause, IsCalm, IsMissing, IsOverLayers, PrintsAll}
+use Rattle.layer_commands.specs.Prints.{read_by}
+use Rattle.layer_commands.specs.Causes.{AreCharged}
 use Rattle.layer_commands.proofs.Pieces.{IfSome-each}
 use Rattle.layer_commands.proofs.Charged.{charges_as}
 use Rattle.layer_commands.proofs.Refusals.{only_memory}
@@ -18,11 +17,9 @@ use Rattle.image_commands.specs.declared.refusal.ImageRefusal.{ImageRefusal}
 use Rattle.image_commands.specs.declared.refusal.ImageRefusal.TheVariants.{Load, Other}
 use Rattle.image_commands.specs.ImageTexts.{image_code}
 use Rattle.image_commands.specs.Images.{DiskPort}
-use Rattle.image_commands.specs.ImageCauses.{IsWrite, CommandCause}
-use Rattle.image_commands.specs.ImageSteps.{told_as}
 use Rattle.image_commands.specs.Clear.{IsClear}
 use Rattle.image_commands.proofs.ClearLaws.{clear-command}
-use Rattle.overlay_tool.specs.Runs.{AreMissing, Fails, IsComplete, PrintFails, Succeeds, WordsFail}
+use Rattle.tool_run.specs.Runs.{Fails, IsComplete, PrintFails, WordsFail}
 
 -- ---- statuses
 
@@ -104,8 +101,8 @@ clear-fails (Flatten stdin) before now disk disk_now refusal counted clear cause
 clear-fails (Info number) before now disk disk_now refusal counted clear cause = absurd clear.ready
 clear-fails Stack before now disk disk_now refusal counted clear cause = absurd clear.ready
 clear-fails (Grow sectors) before now disk disk_now refusal counted clear cause = clear-command (Grow sectors) before now disk disk_now refusal counted clear cause
-clear-fails (Commit uuid) before now disk disk_now refusal counted clear cause = absurd clear.ready
-clear-fails Sweep before now disk disk_now refusal counted clear cause = absurd clear.ready
+clear-fails (Commit uuid) before now disk disk_now refusal counted clear cause = clear-command (Commit uuid) before now disk disk_now refusal counted clear cause
+clear-fails Sweep before now disk disk_now refusal counted clear cause = clear-command Sweep before now disk disk_now refusal counted clear cause
 clear-fails (Make seed acts) before now disk disk_now refusal counted clear cause = absurd clear.ready
 clear-fails (Export connections) before now disk disk_now refusal counted clear cause = absurd clear.ready
 

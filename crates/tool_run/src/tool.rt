@@ -7,14 +7,14 @@ ghost use Rattle.layer_commands.specs.Causes.{IsMissing, IsNoted, most_taken};
 ghost use Rattle.image_commands.specs.declared.refusal.ImageRefusal.TheVariants.{Other};
 ghost use Rattle.image_commands.specs.ImageTexts.{image_text};
 ghost use Rattle.image_commands.specs.Images.{disk_port};
-ghost use Rattle.overlay_tool.specs.Runs.{asked, moment, most_of, AllCharged, AreMissing, Fails, IsComplete, IsImageComplete};
-ghost use Rattle.overlay_tool.specs.Runs.{IsRun, RunFails, RunSucceeds, Succeeds, WordsFail};
+ghost use Rattle.tool_run.specs.Runs.{asked, moment, most_of, AllCharged, AreMissing, Fails, IsComplete, IsImageComplete};
+ghost use Rattle.tool_run.specs.Runs.{IsRun, RunFails, RunSucceeds, Succeeds, WordsFail};
 
 use block_disk::Disk;
 use byte_ports::{Sink, Source};
 use image_commands::{
-    ImageRefusal, as_command, create_image, grow_image, push_image_refusal, read_image,
-    write_image, zero_image,
+    ImageRefusal, as_command, commit_image, create_image, grow_image, push_image_refusal,
+    read_image, sweep_image, write_image, zero_image,
 };
 use layer_commands::{Line, Refusal, run_layers};
 use layer_shelf::Shelf;
@@ -63,8 +63,9 @@ fn run_command<A: Source, B: Sink, D: Disk, S: Shelf>(
             let answer = run_layers(alloc, command, source, out, shelf);
             (as_command(answer), disk)
         }
-        Command::Commit(_) | Command::Sweep | Command::Make { .. } | Command::Export { .. } =>
-            unreachable!(),
+        Command::Commit(uuid) => commit_image(alloc, uuid, shelf, disk, out),
+        Command::Sweep => sweep_image(alloc, shelf, disk, out),
+        Command::Make { .. } | Command::Export { .. } => unreachable!(),
     }
 }
 
@@ -76,8 +77,7 @@ fn read_command(alloc: Global, words: &WordList) -> Result<Command, Refusal>
 {
     match read_words(alloc, words) {
         Ok(command) => match command {
-            Command::Commit(_) | Command::Sweep | Command::Make { .. } | Command::Export { .. } =>
-                Err(Refusal::Usage),
+            Command::Make { .. } | Command::Export { .. } => Err(Refusal::Usage),
             Command::Flatten { .. }
             | Command::Info(_)
             | Command::Stack
@@ -85,7 +85,9 @@ fn read_command(alloc: Global, words: &WordList) -> Result<Command, Refusal>
             | Command::Grow(_)
             | Command::Read { .. }
             | Command::Write { .. }
-            | Command::Zero { .. } => Ok(command),
+            | Command::Zero { .. }
+            | Command::Commit(_)
+            | Command::Sweep => Ok(command),
         },
         Err(WordsFault::Memory) => Err(Refusal::Memory),
         Err(_) => Err(Refusal::Usage),

@@ -1,10 +1,10 @@
-use Rattle.std.proofs.Common.{◌≡◌, ℕ, refl}
-use Rattle.tool_setup.specs.declared.command.Command.TheVariants.{Create, Grow, Read, Zero}
+use Rattle.std.proofs.Common.{ℕ, refl}
+use Rattle.tool_setup.specs.declared.command.Command.TheVariants.{Commit, Create, Grow, Read, Sweep, Zero}
 use Rattle.layer_commands.specs.Ports.{Ports, ports_of}
 use Rattle.layer_commands.proofs.Charged.{charges_at, stays}
 use Rattle.image_commands.proofs.Answered.{unfed}
 use Rattle.image_commands.specs.Images.{DiskPort, disk_port}
-use Rattle.overlay_tool.proofs.tool.run_command.Goals as goal
+use Rattle.tool_run.proofs.tool.run_command.Goals as goal
 
 pub returns-in-Create-clause-refused : goal.returns-in-Create-clause-refused
 returns-in-Create-clause-refused g c =
@@ -92,4 +92,48 @@ returns-in-Grow-clause-charged g c =
         shelf = charges_at g.S.Shelf.faults c.args.shelf.now c.grow_image.new.shelf (λ (p : Ports). p.shelf_faults) before now _ refl refl c.grow_image.ensures.shelf_cause;
       };
       disk_cause = charges_at g.D.Disk.faults c.args.disk c.grow_image.result.1 (λ (n : ℕ). n) (g.D.Disk.faults c.args.disk) (g.D.Disk.faults c.grow_image.result.1) _ refl refl c.grow_image.ensures.disk_cause;
+    }
+
+pub returns-in-Commit-clause-refused : goal.returns-in-Commit-clause-refused
+returns-in-Commit-clause-refused g c =
+    rw c.in-Commit.is (c.commit_image.ensures.refused (g.A.Source.left c.args.source.now) (g.A.Source.left c.args.source.now) (g.A.Source.faults c.args.source.now) (g.A.Source.faults c.args.source.now))
+
+pub returns-in-Commit-clause-charged : goal.returns-in-Commit-clause-charged
+returns-in-Commit-clause-charged g c =
+    let before : Ports = ports_of g.A.Source g.B.Sink g.S.Shelf c.args.source.now c.args.out.now c.args.shelf.now in
+    let now : Ports = ports_of g.A.Source g.B.Sink g.S.Shelf c.args.source.now c.commit_image.new.out c.commit_image.new.shelf in
+    let disk : DiskPort = disk_port g.D.Disk c.args.disk in
+    let disk_now : DiskPort = disk_port g.D.Disk c.commit_image.result.1 in
+    let left = g.A.Source.left c.args.source.now in
+    let count = g.A.Source.faults c.args.source.now in
+    record {
+      ports = record {
+        source = stays (λ (p : Ports). p.source_faults) before now _ refl
+            (unfed (Commit c.in-Commit.uuid) before now disk disk_now c.commit_image.result.0 refl (c.commit_image.ensures.refused left left count count));
+        sink = charges_at g.B.Sink.faults c.args.out.now c.commit_image.new.out (λ (p : Ports). p.sink_faults) before now _ refl refl c.commit_image.ensures.sink_cause;
+        shelf = charges_at g.S.Shelf.faults c.args.shelf.now c.commit_image.new.shelf (λ (p : Ports). p.shelf_faults) before now _ refl refl c.commit_image.ensures.shelf_cause;
+      };
+      disk_cause = charges_at g.D.Disk.faults c.args.disk c.commit_image.result.1 (λ (n : ℕ). n) (g.D.Disk.faults c.args.disk) (g.D.Disk.faults c.commit_image.result.1) _ refl refl c.commit_image.ensures.disk_cause;
+    }
+
+pub returns-in-Sweep-clause-refused : goal.returns-in-Sweep-clause-refused
+returns-in-Sweep-clause-refused g c =
+    rw c.in-Sweep.is (c.sweep_image.ensures.refused (g.A.Source.left c.args.source.now) (g.A.Source.left c.args.source.now) (g.A.Source.faults c.args.source.now) (g.A.Source.faults c.args.source.now))
+
+pub returns-in-Sweep-clause-charged : goal.returns-in-Sweep-clause-charged
+returns-in-Sweep-clause-charged g c =
+    let before : Ports = ports_of g.A.Source g.B.Sink g.S.Shelf c.args.source.now c.args.out.now c.args.shelf.now in
+    let now : Ports = ports_of g.A.Source g.B.Sink g.S.Shelf c.args.source.now c.sweep_image.new.out c.sweep_image.new.shelf in
+    let disk : DiskPort = disk_port g.D.Disk c.args.disk in
+    let disk_now : DiskPort = disk_port g.D.Disk c.sweep_image.result.1 in
+    let left = g.A.Source.left c.args.source.now in
+    let count = g.A.Source.faults c.args.source.now in
+    record {
+      ports = record {
+        source = stays (λ (p : Ports). p.source_faults) before now _ refl
+            (unfed Sweep before now disk disk_now c.sweep_image.result.0 refl (c.sweep_image.ensures.refused left left count count));
+        sink = charges_at g.B.Sink.faults c.args.out.now c.sweep_image.new.out (λ (p : Ports). p.sink_faults) before now _ refl refl c.sweep_image.ensures.sink_cause;
+        shelf = charges_at g.S.Shelf.faults c.args.shelf.now c.sweep_image.new.shelf (λ (p : Ports). p.shelf_faults) before now _ refl refl c.sweep_image.ensures.shelf_cause;
+      };
+      disk_cause = charges_at g.D.Disk.faults c.args.disk c.sweep_image.result.1 (λ (n : ℕ). n) (g.D.Disk.faults c.args.disk) (g.D.Disk.faults c.sweep_image.result.1) _ refl refl c.sweep_image.ensures.disk_cause;
     }

@@ -1,12 +1,12 @@
-use Rattle.std.proofs.Common.{◌≡◌, List, ℕ, refl, map, string_bytes, subst}
+use Rattle.std.proofs.Common.{refl, map, string_bytes, subst}
 use Rattle.std.specs.Prelude.{Option, Result, IfErr}
 use Rattle.tool_setup.specs.declared.command.Command.{Command}
 use Rattle.layer_commands.specs.Ports.{Ports, ports_of}
 use Rattle.image_commands.specs.declared.refusal.ImageRefusal.{ImageRefusal}
 use Rattle.image_commands.specs.Images.{DiskPort, disk_port}
-use Rattle.overlay_tool.specs.Runs.{WordsFail, asked}
-use Rattle.overlay_tool.proofs.Tools.{charged-by, complete_done, complete-refused, clear-run, usage-only}
-use Rattle.overlay_tool.proofs.tool.run_tool.Goals as goal
+use Rattle.tool_run.specs.Runs.{WordsFail, asked}
+use Rattle.tool_run.proofs.Tools.{charged-by, complete_done, complete-refused, clear-run, usage-only}
+use Rattle.tool_run.proofs.tool.run_tool.Goals as goal
 
 pub returns-in-Ok-clause-complete : goal.returns-in-Ok-clause-complete
 returns-in-Ok-clause-complete g c =

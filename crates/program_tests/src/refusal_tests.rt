@@ -1,6 +1,5 @@
 //! Each refusal of the commands, with its status and its line.
-use crate::tests::{first, layer_file};
-use crate::tool::run_tool;
+use crate::tool_tests::{first, layer_file};
 use block_disk::{Disk, MemDisk};
 use byte_ports::{MemSink, MemSource};
 use layer_shelf::MemShelf;
@@ -8,7 +7,12 @@ use sector_extent::{Bytes, CallList, FileTexts};
 use std::alloc::{AllocError, Global};
 use std::process::Abort;
 use std::test::Fail;
+use tool_run::run_tool;
 use tool_setup::WordList;
+
+const COMMIT: &str = "commit 22222222-2222-2222-2222-222222222222";
+
+const COMMIT_NIL: &str = "commit 00000000-0000-0000-0000-000000000000";
 
 /// Whose first call fails.
 #[derive(Clone, Copy, PartialEq, Eq)]
@@ -86,7 +90,7 @@ fn answer(
     disk: MemDisk,
     failing: Failing,
 ) -> Result<(u8, Bytes, MemDisk), AllocError> {
-    assert!(rt; files.len() < 9);
+    assert!(rt; files.len() < 256);
     let mut source = MemSource::new(
         Bytes::from_vec(input),
         calls(alloc, failing == Failing::Source)?,
@@ -138,11 +142,12 @@ fn each_refusal_has_its_status_and_line(rt: HostRuntime) -> Result<(), Fail> {
     use Failing::{Nobody, Shelf, Sink, Source};
     use Lower::{Again, First, Larger, Second, Smaller};
     // words, length of the source, layers, whether there is an image of 8 sectors, who fails
-    let cases: [(&str, usize, &[Lower], bool, Failing, u8, &str); 37] = [
+    let cases: [(&str, usize, &[Lower], bool, Failing, u8, &str); 44] = [
         ("", 0, &[], false, Nobody, 2, "usage"),
         ("read 0 x", 0, &[], true, Nobody, 2, "usage"),
         ("grow 0", 0, &[], true, Nobody, 2, "usage"),
-        ("sweep", 0, &[], true, Nobody, 2, "usage"),
+        ("commit", 0, &[], true, Nobody, 2, "usage"),
+        (COMMIT_NIL, 0, &[], true, Nobody, 2, "usage"),
         ("make 1 2", 0, &[], false, Nobody, 2, "usage"),
         ("export", 0, &[], true, Nobody, 2, "usage"),
         ("stack", 0, &[], false, Nobody, 3, "stack empty"),
@@ -232,6 +237,12 @@ fn each_refusal_has_its_status_and_line(rt: HostRuntime) -> Result<(), Fail> {
         ("grow 16", 0, &[], true, Sink, 4, "sink fault"),
         ("grow 8", 0, &[], true, Nobody, 6, "not larger 8"),
         ("grow 7", 0, &[], true, Nobody, 6, "not larger 8"),
+        (COMMIT, 0, &[], false, Nobody, 3, "no image"),
+        (COMMIT, 0, &[], true, Failing::Disk, 4, "disk fault"),
+        (COMMIT, 0, &[], true, Sink, 4, "sink fault"),
+        ("sweep", 0, &[], false, Nobody, 3, "no image"),
+        ("sweep", 0, &[], true, Failing::Disk, 4, "disk fault"),
+        ("sweep", 0, &[], true, Sink, 4, "sink fault"),
     ];
     for (words, input, lowers, made, failing, code, line) in cases {
         let disk = if made {
@@ -246,6 +257,33 @@ fn each_refusal_has_its_status_and_line(rt: HostRuntime) -> Result<(), Fail> {
         assert_eq!(rt; status, code, "{words}: {line}");
         assert!(rt; is_line(note.as_slice(), line), "{words}: {line}");
     }
+    Ok(())
+}
+
+// 255 layers without rows, each over the one before.
+fn tall_stack(alloc: Global) -> Result<Vec<Bytes>, AllocError> {
+    let mut files = Vec::new(alloc);
+    for number in 0..255 {
+        let file = layer_file(alloc, number + 1, number, false, None)?;
+        files.push(Bytes::from_vec(file))?;
+    }
+    Ok(files)
+}
+
+#[test]
+fn an_image_over_255_layers_is_not_committed(rt: HostRuntime) -> Result<(), Fail> {
+    let alloc = rt.alloc();
+    let disk = MemDisk::new(alloc);
+    let layers = tall_stack(alloc)?;
+    let none = Vec::new(alloc);
+    let (status, _, disk) = answer(&rt, alloc, "create", none, layers, disk, Failing::Nobody)?;
+    assert_eq!(rt; status, 0);
+    // its uuid is that of a layer too, and the number is looked at first
+    let layers = tall_stack(alloc)?;
+    let none = Vec::new(alloc);
+    let (status, note, _) = answer(&rt, alloc, COMMIT, none, layers, disk, Failing::Nobody)?;
+    assert_eq!(rt; status, 6);
+    assert!(rt; is_line(note.as_slice(), "too many layers"));
     Ok(())
 }
 

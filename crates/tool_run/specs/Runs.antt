@@ -1,5 +1,5 @@
 -- What a run of the program does, and why it is refused: of a command over layers and of one on an image.
-use Rattle.std.specs.Prelude.{◌≡◌, ◌≢◌, ℕ, ◌⊎◌, ◌↔◌, ⊤, List, Option, Some, None, IfSome, Result, Ok, Err}
+use Rattle.std.specs.Prelude.{◌≡◌, ◌≢◌, ℕ, ◌⊎◌, ⊤, List, Option, Some, None, IfSome, Result, Ok, Err}
 use Rattle.std.specs.Io.KnownBytes.{Keeps}
 use Rattle.sector_extent.specs.Causes.{Charges}
 use Rattle.byte_ports.specs.declared.ports.Source as sources
@@ -7,7 +7,7 @@ use Rattle.byte_ports.specs.declared.ports.Sink as sinks
 use Rattle.layer_shelf.specs.declared.shelves.Shelf as shelves
 use Rattle.block_disk.specs.declared.disk.Disk as disks
 use Rattle.block_disk.specs.Claims.{Quiet}
-use Rattle.lsmt_header.specs.Blocks.{IsSize}
+use Rattle.lsmt_header.specs.Blocks.{IsSize, nil}
 use Rattle.tool_setup.specs.declared.command.Command.{Command}
 use Rattle.tool_setup.specs.declared.command.Command.TheVariants.{Flatten, Info, Stack, Create, Grow, Read, Write, Zero, Commit, Sweep, Make, Export}
 use Rattle.tool_setup.specs.declared.command.WordsFault.{WordsFault}
@@ -15,9 +15,9 @@ use Rattle.tool_setup.specs.Words.{command_of}
 use Rattle.layer_commands.specs.declared.refusal.Refusal.{Refusal}
 use Rattle.layer_commands.specs.declared.refusal.Refusal.TheVariants as refused
 use Rattle.layer_commands.specs.Texts.{line_of}
-use Rattle.layer_commands.specs.Ports.{Ports, Notes, TakesAtMost, ports_of, notes_of}
+use Rattle.layer_commands.specs.Ports.{Ports, Notes, ports_of, notes_of}
 use Rattle.layer_commands.specs.Prints.{Prints, read_by}
-use Rattle.layer_commands.specs.Causes.{PrintsAll, Cause, IsNoted, AreCharged, IsCalm, IsCounted, IsMissing, most_taken}
+use Rattle.layer_commands.specs.Causes.{PrintsAll, Cause, IsNoted, AreCharged, IsCalm, IsMissing, most_taken}
 use Rattle.image_commands.specs.declared.refusal.ImageRefusal.{ImageRefusal}
 use Rattle.image_commands.specs.declared.refusal.ImageRefusal.TheVariants.{Load, Other}
 use Rattle.image_commands.specs.ImageTexts.{image_text, image_code}
@@ -34,7 +34,7 @@ pub record Moment : Type 1 where
 abbrev pub moment : {A B C D S : Type 0} → sources.Ghosts A → sinks.Ghosts B → sinks.Ghosts C → disks.Ghosts D → shelves.Ghosts S → A → B → C → D → S → Moment
 moment a b c d s source out notes disk shelf = record { ports = ports_of a b s source out shelf; notes = notes_of c notes; disk = disk_port d disk }
 
--- The command is one of those that are run here, and a size that is asked for is one of an image.
+-- The command is one of those that are run here; a size that is asked for is one of an image, and a uuid not the nil one.
 abbrev pub IsRun : Command → Type 0
 IsRun (Flatten stdin) = ⊤
 IsRun (Info number) = ⊤
@@ -44,8 +44,8 @@ IsRun (Read at count) = ⊤
 IsRun (Write at) = ⊤
 IsRun (Zero at count) = ⊤
 IsRun (Grow sectors) = IsSize sectors
-IsRun (Commit uuid) = ⊥
-IsRun Sweep = ⊥
+IsRun (Commit uuid) = uuid ≢ nil
+IsRun Sweep = ⊤
 IsRun (Make seed acts) = ⊥
 IsRun (Export connections) = ⊥
 
@@ -63,8 +63,8 @@ Succeeds (Read at count) before now disk disk_now = Does (Read at count) before 
 Succeeds (Write at) before now disk disk_now = Does (Write at) before now disk disk_now
 Succeeds (Zero at count) before now disk disk_now = Does (Zero at count) before now disk disk_now
 Succeeds (Grow sectors) before now disk disk_now = Does (Grow sectors) before now disk disk_now
-Succeeds (Commit uuid) before now disk disk_now = ⊥
-Succeeds Sweep before now disk disk_now = ⊥
+Succeeds (Commit uuid) before now disk disk_now = Does (Commit uuid) before now disk disk_now
+Succeeds Sweep before now disk disk_now = Does Sweep before now disk disk_now
 Succeeds (Make seed acts) before now disk disk_now = ⊥
 Succeeds (Export connections) before now disk disk_now = ⊥
 
@@ -83,8 +83,8 @@ Fails (Read at count) before now disk disk_now refusal = CommandCause (Read at c
 Fails (Write at) before now disk disk_now refusal = CommandCause (Write at) before now disk disk_now refusal
 Fails (Zero at count) before now disk disk_now refusal = CommandCause (Zero at count) before now disk disk_now refusal
 Fails (Grow sectors) before now disk disk_now refusal = CommandCause (Grow sectors) before now disk disk_now refusal
-Fails (Commit uuid) before now disk disk_now refusal = ⊥
-Fails Sweep before now disk disk_now refusal = ⊥
+Fails (Commit uuid) before now disk disk_now refusal = CommandCause (Commit uuid) before now disk disk_now refusal
+Fails Sweep before now disk disk_now refusal = CommandCause Sweep before now disk disk_now refusal
 Fails (Make seed acts) before now disk disk_now refusal = ⊥
 Fails (Export connections) before now disk disk_now refusal = ⊥
 
@@ -98,8 +98,8 @@ run_of (Read at count) = Some (Read at count)
 run_of (Write at) = Some (Write at)
 run_of (Zero at count) = Some (Zero at count)
 run_of (Grow sectors) = Some (Grow sectors)
-run_of (Commit uuid) = None
-run_of Sweep = None
+run_of (Commit uuid) = Some (Commit uuid)
+run_of Sweep = Some Sweep
 run_of (Make seed acts) = None
 run_of (Export connections) = None
 
