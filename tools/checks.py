@@ -5,7 +5,7 @@ import re
 import subprocess
 import sys
 
-LONGEST_LINE, LONGEST_FILE, LONGEST_README, LONGEST_CHAIN, MOST_EDITS = 120, 800, 8 * 1024, 9, 8
+LONGEST_LINE, LONGEST_FILE, LONGEST_README, LONGEST_CHAIN, MOST_EDITS = 120, 800, 8 * 1024, 10, 8
 
 os.chdir(os.path.join(os.path.dirname(os.path.abspath(__file__)), ".."))
 files = subprocess.run(["git", "ls-files"], check=True, capture_output=True, text=True).stdout.split("\n")[:-1]
@@ -55,7 +55,7 @@ for path in files:
 for name, below in listed.items():
     for path in files:
         if "image_core" in below and path.startswith(f"crates/{name}/src/") and path.endswith(".rt"):
-            found = [number for number, line in enumerate(lines_of(path), 1) if re.search(r"\.parts\b", line)]
+            found = [number for number, line in enumerate(lines_of(path), 1) if re.search(r"(?<!declared)\.parts\b", line)]
             faults += [f"{path}:{number} names a private field of an image" for number in found]
 for number, line in enumerate(lines_of("crates/image_core/src/image.rt"), 1):
     if re.search(r"\.(old|new|now)\.(parts|disk)\b", line):
