@@ -1,5 +1,5 @@
 mod Answered
-mod ExampleFacts
+pub mod ExampleFacts
 mod FitsLaws
 mod LineLaws
 mod Numbers

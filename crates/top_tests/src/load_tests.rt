@@ -1,3 +1,5 @@
+ghost use Rattle.lsmt_header.specs.Blocks.{IsSealed};
+
 use block_disk::{FileList, MemDisk};
 use lsmt_header::{Head, HeadFault, Kind, Tag, encode_block};
 use sector_extent::{Bytes, Extent};
@@ -18,7 +20,9 @@ enum Change {
 const PARENT: [u8; 16] = [0x22; 16];
 
 // The block at the front of a file of an image of four sectors.
-fn front(kind: Kind, parent: [u8; 16]) -> [u8; 4096] {
+fn front(kind: Kind, parent: [u8; 16]) -> [u8; 4096]
+    requires { IsSealed kind → ⊥ }
+{
     encode_block(&Head {
         version: 1,
         kind,
