@@ -5,7 +5,7 @@ import re
 import subprocess
 import sys
 
-LONGEST_LINE, LONGEST_FILE, LONGEST_README, LONGEST_CHAIN, MOST_EDITS = 120, 800, 8 * 1024, 9, 8
+LONGEST_LINE, LONGEST_FILE, LONGEST_README, LONGEST_CHAIN, MOST_EDITS = 120, 800, 8 * 1024, 10, 8
 
 os.chdir(os.path.join(os.path.dirname(os.path.abspath(__file__)), ".."))
 files = subprocess.run(["git", "ls-files"], check=True, capture_output=True, text=True).stdout.split("\n")[:-1]

@@ -1,12 +1,15 @@
 //! Layers of block images, and images over them: writes the flat image of one layer that is read from
 //! standard input, or of a stack of layers, prints what layers say of themselves, and makes, reads,
-//! writes, zeros and grows the image of a disk over a stack of layers. A configuration names disk and
-//! layers.
+//! writes, zeros and grows the image of a disk over a stack of layers, or serves it over NBD. A
+//! configuration names disk, layers and addresses.
 #![tactic(auto)]
 
+mod exporting;
+mod harbour;
 mod setup;
 mod words;
 
+use crate::exporting::export_configured;
 use crate::setup::{SetupFault, read_configuration, targets_of};
 use crate::words::{Parts, part_words, words_behind};
 use block_disk::{Disk, FolderDisk, MemDisk};
@@ -18,12 +21,14 @@ use sector_extent::{CallList, FileTexts};
 use std::env;
 use std::io::ErrorKind;
 use std::process::ExitCode;
+use std::sync::Wait;
+use std::thread::Threads;
 use tool_run::run_tool;
 use tool_setup::{Config, Lowers, WordList};
 
 fn main(rt: HostRuntime) -> ExitCode {
     let answer = match read_parts(&rt) {
-        Ok(parts) => run_parts(rt, parts),
+        Ok(parts) => run_parts(rt, &rt, parts),
         Err(fault) => Err(fault),
     };
     match answer {
@@ -54,12 +59,20 @@ fn read_parts(rt: &HostRuntime) -> Result<Parts, SetupFault> {
 }
 
 // Runs a command over what a configuration names, or over an empty disk in memory without layers.
-fn run_parts(rt: HostRuntime, parts: Parts) -> Result<u8, SetupFault> {
+fn run_parts<R: Threads + Wait + Sync>(
+    rt: HostRuntime,
+    threads: &R,
+    parts: Parts,
+) -> Result<u8, SetupFault> {
     let Parts { config, words } = parts;
     match config {
         Some(path) => {
             let config = read_configuration(&rt, path.as_str())?;
-            run_configured(rt, config, &words)
+            if is_export(&words) {
+                export_configured(rt, threads, config, &words)
+            } else {
+                run_configured(rt, config, &words)
+            }
         }
         None => {
             let files = FileTexts::from_vec(Vec::new(rt.alloc()));
@@ -82,7 +95,11 @@ fn run_configured(rt: HostRuntime, config: Config, words: &WordList) -> Result<u
             Ok(run(rt, words, disk, &mut shelf))
         }
         Lowers::Remote { host, paths } => {
-            let targets = targets_of(rt.alloc(), &host, paths)?;
+            // A configuration names at most 255.
+            if paths.as_slice().len() > 255 {
+                return Err(SetupFault::Config);
+            }
+            let targets = targets_of(rt.alloc(), &host, &paths)?;
             match RangeShelf::new(rt.alloc(), TcpLink::new(rt, host), targets) {
                 Ok(shelf) => {
                     let mut shelf = shelf;
@@ -91,6 +108,14 @@ fn run_configured(rt: HostRuntime, config: Config, words: &WordList) -> Result<u
                 Err(_) => Err(SetupFault::Memory),
             }
         }
+    }
+}
+
+// The command serves the image.
+fn is_export(words: &WordList) -> bool {
+    match words.as_slice().first() {
+        Some(first) => first.as_str() == "export",
+        None => false,
     }
 }
 

@@ -1,5 +1,5 @@
 //! What main does before a command runs: it reads the configuration and finds the lower layers.
-ghost use Rattle.std.specs.Prelude.{◌^◌, ◌<◌, length, IfOk};
+ghost use Rattle.std.specs.Prelude.{◌≡◌, length, IfOk};
 
 use http_range::{HostText, Target};
 use range_shelf::TargetList;
@@ -18,6 +18,8 @@ pub enum SetupFault {
     ConfigFile,
     /// The text of the file is no configuration.
     Config,
+    /// An address cannot be listened at.
+    Listen,
     /// Memory was wanting.
     Memory,
 }
@@ -41,6 +43,7 @@ impl SetupFault {
             SetupFault::Usage => "refused: usage\n",
             SetupFault::ConfigFile => "refused: config file\n",
             SetupFault::Config => "refused: config\n",
+            SetupFault::Listen => "refused: listen\n",
             SetupFault::Memory => "refused: memory\n",
         }
     }
@@ -49,6 +52,7 @@ impl SetupFault {
     pub fn code(&self) -> u8 {
         match self {
             SetupFault::Usage | SetupFault::ConfigFile | SetupFault::Config => 2,
+            SetupFault::Listen => 4,
             SetupFault::Memory => 5,
         }
     }
@@ -75,20 +79,31 @@ pub fn copy(alloc: Global, text: &Bytes) -> Result<Bytes, AllocError> {
     Ok(Bytes::from_vec(Vec::from_slice(alloc, text.as_slice())?))
 }
 
+/// The same texts, of their own.
+pub fn copy_all(alloc: Global, texts: &TextList) -> Result<TextList, AllocError>
+    ensures { IfOk result (λ copies. length copies ≡ length texts.now) }
+{
+    let mut copies = Vec::new(alloc);
+    for text in texts.as_slice() {
+        copies.push(copy(alloc, text)?)?;
+    }
+    Ok(TextList::from_vec(copies))
+}
+
 /// Where the files of a host stand.
-pub fn targets_of(alloc: Global, host: &HostText, paths: TextList) -> Result<TargetList, SetupFault>
-    ensures { IfOk result (λ targets. length targets < 2 ^ 32) }
+pub fn targets_of(
+    alloc: Global,
+    host: &HostText,
+    paths: &TextList,
+) -> Result<TargetList, SetupFault>
+    ensures { IfOk result (λ targets. length targets ≡ length paths.now) }
 {
     let mut targets = Vec::new(alloc);
-    for path in paths.into_vec() {
-        match Target::new(copy(alloc, host)?, path) {
+    for path in paths.as_slice() {
+        match Target::new(copy(alloc, host)?, copy(alloc, path)?) {
             Some(target) => targets.push(target)?,
             None => return Err(SetupFault::Config),
         }
-    }
-    // A configuration names at most 255.
-    if targets.len() > 255 {
-        return Err(SetupFault::Config);
     }
     Ok(TargetList::from_vec(targets))
 }
