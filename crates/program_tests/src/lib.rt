@@ -4,6 +4,10 @@
 #[cfg(test)]
 mod image_tests;
 #[cfg(test)]
+mod layers;
+#[cfg(test)]
 mod refusal_tests;
+#[cfg(test)]
+mod runs;
 #[cfg(test)]
 mod tool_tests;
