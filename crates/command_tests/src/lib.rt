@@ -2,6 +2,8 @@
 #![tactic(auto)]
 
 #[cfg(test)]
+mod expecting;
+#[cfg(test)]
 mod layer_commands_tests;
 #[cfg(test)]
 mod tool_setup_tests;

@@ -1,10 +1,13 @@
+//! Words and configurations that are read or refused.
+use crate::expecting::holds;
 use std::alloc::{AllocError, Global};
+use std::process::Abort;
 use std::test::Fail;
 use tool_setup::{
     Arg, Command, Config, ConfigFault, Field, Lowers, WordList, WordsFault, read_config, read_words,
 };
 
-/// The words of a line, with one space between each two.
+// The words of a line, with one space between each two.
 fn words_of(alloc: Global, line: &str) -> Result<WordList, AllocError> {
     let mut words = Vec::new(alloc);
     for word in line.split(' ') {
@@ -125,25 +128,40 @@ const REFUSED: [(&str, WordsFault); 45] = [
     ),
 ];
 
+fn is_read(
+    alloc: Global,
+    line: &str,
+    answer: Result<Command, WordsFault>,
+) -> Result<bool, AllocError> {
+    Ok(read_words(alloc, &words_of(alloc, line)?) == answer)
+}
+
+fn are_read(rt: &impl Abort, alloc: Global, cases: &[(&str, Command)]) -> Result<(), Fail> {
+    for (line, command) in cases {
+        holds(rt, is_read(alloc, line, Ok(*command))?, line);
+    }
+    Ok(())
+}
+
+fn are_refused(rt: &impl Abort, alloc: Global, cases: &[(&str, WordsFault)]) -> Result<(), Fail> {
+    for (line, fault) in cases {
+        holds(rt, is_read(alloc, line, Err(*fault))?, line);
+    }
+    Ok(())
+}
+
 #[test]
-fn words_are_read_or_refused(rt: HostRuntime) -> Result<(), Fail> {
+fn words_are_read(rt: HostRuntime) -> Result<(), Fail> {
+    are_read(&rt, rt.alloc(), &READ)
+}
+
+#[test]
+fn words_are_refused(rt: HostRuntime) -> Result<(), Fail> {
     let alloc = rt.alloc();
-    for (line, command) in READ {
-        assert_eq!(rt;
-            read_words(alloc, &words_of(alloc, line)?),
-            Ok(command),
-            "{line}"
-        );
-    }
-    for (line, fault) in REFUSED {
-        assert_eq!(rt;
-            read_words(alloc, &words_of(alloc, line)?),
-            Err(fault),
-            "{line}"
-        );
-    }
+    are_refused(&rt, alloc, &REFUSED)?;
     let none = WordList::from_vec(Vec::new(alloc));
-    assert_eq!(rt; read_words(alloc, &none), Err(WordsFault::NoCommand));
+    let answer = read_words(alloc, &none);
+    holds(&rt, answer == Err(WordsFault::NoCommand), "no words");
     Ok(())
 }
 
@@ -288,78 +306,129 @@ const BAD: [(&str, ConfigFault); 51] = [
     ),
 ];
 
-fn fault_of(answer: Result<Config, ConfigFault>) -> Option<ConfigFault> {
-    match answer {
-        Ok(_) => None,
-        Err(fault) => Some(fault),
+// Whether the text is refused so.
+fn is_refused(alloc: Global, text: &[u8], fault: ConfigFault) -> bool {
+    match read_config(alloc, text) {
+        Ok(_) => false,
+        Err(found) => found == fault,
     }
 }
 
-/// An array that is nested so deep.
+// An array that is nested so deep.
 fn nested(alloc: Global, depth: usize) -> Result<Vec<u8>, AllocError> {
     let mut text = Vec::new(alloc);
     text.resize(depth, b'[')?;
-    text.resize(2 * depth, b']')?;
+    text.resize(depth.saturating_mul(2), b']')?;
     Ok(text)
 }
 
-/// The host of the lowers, empty for files, and how many they are.
-fn host_and_count(lowers: &Lowers) -> (&[u8], usize) {
-    match lowers {
-        Lowers::Files(files) => (b"".as_slice(), files.as_slice().len()),
-        Lowers::Remote { host, paths } => (host.as_slice(), paths.as_slice().len()),
+fn are_faulty(rt: &impl Abort, alloc: Global, cases: &[(&str, ConfigFault)]) {
+    for (text, fault) in cases {
+        holds(rt, is_refused(alloc, text.as_bytes(), *fault), text);
     }
 }
 
 #[test]
-fn configurations_are_read_or_refused(rt: HostRuntime) -> Result<(), Fail> {
+fn configurations_are_refused(rt: HostRuntime) -> Result<(), Fail> {
     let alloc = rt.alloc();
-    for (text, fault) in BAD {
-        assert_eq!(rt;
-            fault_of(read_config(alloc, text.as_bytes())),
-            Some(fault),
-            "{text}"
-        );
-    }
+    are_faulty(&rt, alloc, &BAD);
     let deep = nested(alloc, 127)?;
-    let deeper = nested(alloc, 128)?;
-    assert_eq!(rt;
-        fault_of(read_config(alloc, deep.as_slice())),
-        Some(ConfigFault::NotObject)
-    );
-    assert_eq!(rt;
-        fault_of(read_config(alloc, deeper.as_slice())),
-        Some(ConfigFault::NotJson)
-    );
-    assert_eq!(rt;
-        fault_of(read_config(alloc, b"\xFF")),
-        Some(ConfigFault::NotJson)
-    );
-    let least = read_config(alloc, b"{\"disk\":\"\",\"disk\":\"d\"}").expect(
+    holds(
         &rt,
-        "a configuration",
+        is_refused(alloc, &deep, ConfigFault::NotObject),
+        "127 deep",
     );
-    assert_eq!(rt; least.disk.as_slice(), b"d".as_slice());
-    assert_eq!(rt; least.export.as_slice().len(), 0);
-    assert!(rt; !least.read_only);
-    assert_eq!(rt; (least.cache_blocks, least.lanes), (1024, 2));
-    assert_eq!(rt; least.listen.as_slice(), b"127.0.0.1:10809".as_slice());
-    assert_eq!(rt; least.control.as_slice(), b"127.0.0.1:10810".as_slice());
-    assert_eq!(rt; host_and_count(&least.lowers), (b"".as_slice(), 0));
+    let deeper = nested(alloc, 128)?;
+    holds(
+        &rt,
+        is_refused(alloc, &deeper, ConfigFault::NotJson),
+        "128 deep",
+    );
+    holds(
+        &rt,
+        is_refused(alloc, b"\xFF", ConfigFault::NotJson),
+        "not UTF-8",
+    );
     Ok(())
 }
 
+// What a configuration says. The host is empty for files.
+struct Wanted {
+    disk: &'static [u8],
+    host: &'static [u8],
+    lowers: usize,
+    export: &'static [u8],
+    read_only: bool,
+    cache_blocks: u32,
+    lanes: u32,
+    listen: &'static [u8],
+    control: &'static [u8],
+}
+
+// Whether the lowers are so many of this host.
+fn are_lowers(lowers: &Lowers, host: &[u8], count: usize) -> bool {
+    match lowers {
+        Lowers::Files(files) => host.is_empty() && files.as_slice().len() == count,
+        Lowers::Remote { host: found, paths } => found.as_slice() == host
+            && paths.as_slice().len() == count,
+    }
+}
+
+fn has_texts(config: &Config, wanted: &Wanted) -> bool {
+    config.disk.as_slice() == wanted.disk
+        && config.export.as_slice() == wanted.export
+        && config.listen.as_slice() == wanted.listen
+        && config.control.as_slice() == wanted.control
+}
+
+fn has_numbers(config: &Config, wanted: &Wanted) -> bool {
+    config.read_only == wanted.read_only
+        && config.cache_blocks == wanted.cache_blocks
+        && config.lanes == wanted.lanes
+}
+
+// Whether the text is read as that.
+fn says(alloc: Global, text: &[u8], wanted: &Wanted) -> bool {
+    match read_config(alloc, text) {
+        Ok(config) => {
+            has_texts(&config, wanted)
+                && has_numbers(&config, wanted)
+                && are_lowers(&config.lowers, wanted.host, wanted.lowers)
+        }
+        Err(_) => false,
+    }
+}
+
+const LEAST: Wanted = Wanted {
+    disk: b"d",
+    host: b"",
+    lowers: 0,
+    export: b"",
+    read_only: false,
+    cache_blocks: 1024,
+    lanes: 2,
+    listen: b"127.0.0.1:10809",
+    control: b"127.0.0.1:10810",
+};
+
+const ALL: Wanted = Wanted {
+    disk: b"d",
+    host: b"h:80",
+    lowers: 2,
+    export: b"img",
+    read_only: true,
+    cache_blocks: 16384,
+    lanes: 16,
+    listen: b"[::1]:1",
+    control: b"c:2",
+};
+
 #[test]
-fn each_field_is_read(rt: HostRuntime) -> Result<(), Fail> {
+fn each_field_is_read(rt: HostRuntime) {
+    let text = b"{\"disk\":\"\",\"disk\":\"d\"}";
+    holds(&rt, says(rt.alloc(), text, &LEAST), "the defaults");
     let text =
         b"{ \"disk\": \"d\", \"lowers\": {\"host\": \"h:80\", \"paths\": [\"/a\", \"/b\"]}, \"export\": \"img\",
         \"read_only\": true, \"cache_blocks\": 16384, \"lanes\": 16, \"listen\": \"[::1]:1\", \"control\": \"c:2\" }";
-    let config = read_config(rt.alloc(), text).expect(&rt, "a configuration");
-    assert_eq!(rt; config.export.as_slice(), b"img".as_slice());
-    assert!(rt; config.read_only);
-    assert_eq!(rt; (config.cache_blocks, config.lanes), (16384, 16));
-    assert_eq!(rt; config.listen.as_slice(), b"[::1]:1".as_slice());
-    assert_eq!(rt; config.control.as_slice(), b"c:2".as_slice());
-    assert_eq!(rt; host_and_count(&config.lowers), (b"h:80".as_slice(), 2));
-    Ok(())
+    holds(&rt, says(rt.alloc(), text, &ALL), "all fields");
 }

@@ -3,15 +3,18 @@ ghost use Rattle.std.specs.Prelude.{◌≡◌, ◌≤◌, All, length, Some};
 ghost use Rattle.lane_serve.specs.Listeners.{IsFresh};
 ghost use Rattle.lane_export.specs.Exporting.{HaveSameFiles};
 
-use crate::images::words_of;
+use crate::clients::{Ask, is_sent, replies};
+use crate::images::{no_calls, words_of};
+use crate::signals::{CountedShelf, Signal};
 use block_disk::MemDisk;
-use byte_ports::{Sink, Source};
+use byte_ports::{MemSink, MemSource, Sink, Source};
 use control_session::ControlEnd;
-use lane_export::{Harbour, Parts, Settings, run_export};
-use lane_serve::Listener;
+use lane_export::{Harbour, LaneList, Parts, Settings, run_export};
+use lane_serve::{Listener, MemListener, TakenList};
 use layer_shelf::Shelf;
 use nbd_session::{Export, NameBytes, Served};
-use std::alloc::Global;
+use sector_extent::{Bytes, CallList, FileTexts};
+use std::alloc::{AllocError, Global};
 use std::sync::Wait;
 use std::test::Fail;
 use std::thread::Threads;
@@ -116,4 +119,63 @@ pub fn export_from<
         }),
         None => Err(Fail::new("the parts are not at home")),
     }
+}
+
+/// Does what the line says, with one lane over this shelf, these connections, a listener whose calls of
+/// these numbers fail, and a control without lines. It answers the status, and what came back.
+pub fn export_one<S: Shelf + Send + Drop, R: Threads + Wait + Sync>(
+    rt: &R,
+    alloc: Global,
+    line: &str,
+    disk: MemDisk,
+    shelf: S,
+    control_shelf: S,
+    connections: FileTexts,
+    failing: CallList,
+) -> Result<(u8, TakenList<Served>), Fail> {
+    let reads = Signal::new();
+    let shelf = CountedShelf {
+        files: shelf,
+        reads: &reads,
+    };
+    let control_shelf = CountedShelf {
+        files: control_shelf,
+        reads: &reads,
+    };
+    if shelf.count() != control_shelf.count() {
+        return Err(Fail::new("other files"));
+    }
+    let listener = MemListener::new(alloc, connections, failing);
+    let mut lanes = Vec::new(alloc);
+    lanes.push((shelf, listener))?;
+    let parts = Parts {
+        disk,
+        lanes: LaneList::from_vec(lanes),
+        control_shelf,
+        control_source: MemSource::new(Bytes::from_vec(Vec::new(alloc)), no_calls(alloc)),
+        control_sink: MemSink::new(alloc, no_calls(alloc)),
+    };
+    let exported = export_from(rt, alloc, line, parts)?;
+    let Some((_, listener)) = exported.parts.lanes.into_vec().pop() else {
+        return Err(Fail::new("a lane"));
+    };
+    Ok((exported.status, listener.into_taken()))
+}
+
+/// How many connections came back, all of them with the replies to this; none where one of them has others.
+pub fn answered(
+    alloc: Global,
+    taken: TakenList<Served>,
+    asks: &[Ask],
+) -> Result<Option<usize>, AllocError> {
+    let wanted = replies(alloc, asks)?;
+    let mut count = 0;
+    for connection in taken.into_vec() {
+        let sent = connection.sink.into_bytes();
+        if connection.end != Served::Done || !is_sent(sent.as_slice(), &wanted) {
+            return Ok(None);
+        }
+        count += 1;
+    }
+    Ok(Some(count))
 }

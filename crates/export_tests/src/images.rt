@@ -82,12 +82,7 @@ pub fn words_of(alloc: Global, line: &str) -> Result<WordList, AllocError> {
 }
 
 /// The disk after a command over these layers, which is done.
-pub fn run_on(
-    alloc: Global,
-    disk: MemDisk,
-    line: &str,
-    lowers: &[Lower],
-) -> Result<MemDisk, Fail> {
+pub fn run_on(alloc: Global, disk: MemDisk, line: &str, lowers: &[Lower]) -> Result<MemDisk, Fail> {
     let mut source = MemSource::new(Bytes::from_vec(Vec::new(alloc)), no_calls(alloc));
     let mut out = MemSink::new(alloc, no_calls(alloc));
     let mut notes = MemSink::new(alloc, no_calls(alloc));

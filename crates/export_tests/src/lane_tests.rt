@@ -1,13 +1,16 @@
 //! What two lanes do beside one another.
 use crate::clients::Ask;
+use crate::expecting::holds;
 use crate::images::{FIRST, Lower, image_over, layer_file, run_on};
-use crate::scenes::{Signals, is_answered, play};
+use crate::scenes::{Signals, is_served, play};
 use crate::signals::Barrier;
 use block_disk::{Disk, MemDisk};
 use std::alloc::{AllocError, Global};
+use std::sync::Wait;
 use std::test::Fail;
+use std::thread::Threads;
 
-const READ_TWICE: [Ask; 2] = [Ask::Read(512, 512, 0x61), Ask::Read(512, 512, 0x61)];
+pub const READ_TWICE: [Ask; 2] = [Ask::Read(512, 512, 0x61), Ask::Read(512, 512, 0x61)];
 
 #[test]
 fn a_block_is_read_once_for_two_reads(rt: HostRuntime) -> Result<(), Fail> {
@@ -22,15 +25,18 @@ fn a_block_is_read_once_for_two_reads(rt: HostRuntime) -> Result<(), Fail> {
         signals.second_client(&[]),
         signals.controller(b"", b""),
     )?;
-    assert_eq!(rt; outcome.status, 0);
-    assert!(rt; is_answered(alloc, &outcome, 0, &READ_TWICE)?);
-    assert_eq!(rt; signals.reads.count(), 1);
+    holds(
+        &rt,
+        is_served(alloc, &signals, &outcome, &READ_TWICE, &[], b"")?,
+        "two reads",
+    );
+    holds(&rt, signals.reads.count() == 1, "one read of the shelf");
     Ok(())
 }
 
-const READ_BEFORE_AND_AFTER: [Ask; 2] = [Ask::Read(512, 512, 0x61), Ask::Read(512, 512, 0x7A)];
+pub const READ_BEFORE_AND_AFTER: [Ask; 2] = [Ask::Read(512, 512, 0x61), Ask::Read(512, 512, 0x7A)];
 
-const WRITE_AND_FLUSH: [Ask; 2] = [Ask::Write(512, 512, 0x7A), Ask::Flush];
+pub const WRITE_AND_FLUSH: [Ask; 2] = [Ask::Write(512, 512, 0x7A), Ask::Flush];
 
 // The read of lane 0 waits in its fetch until lane 1 has flushed a write to that sector, and lane 1 begins
 // once it waits.
@@ -55,16 +61,18 @@ fn a_lane_goes_on_while_another_waits(rt: HostRuntime) -> Result<(), Fail> {
         second,
         signals.controller(b"", b""),
     )?;
-    assert!(rt; !signals.were_given_up());
-    assert_eq!(rt; outcome.status, 0);
-    assert!(rt; is_answered(alloc, &outcome, 0, &READ_BEFORE_AND_AFTER)?);
-    assert!(rt; is_answered(alloc, &outcome, 1, &WRITE_AND_FLUSH)?);
+    let first = &READ_BEFORE_AND_AFTER;
+    holds(
+        &rt,
+        is_served(alloc, &signals, &outcome, first, &WRITE_AND_FLUSH, b"")?,
+        "both",
+    );
     Ok(())
 }
 
 const SECTORS: u64 = 2_097_152;
 
-const LARGE: [Lower; 3] = [
+pub const LARGE: [Lower; 3] = [
     Lower {
         uuid: 0x44,
         parent: 0,
@@ -88,25 +96,26 @@ const LARGE: [Lower; 3] = [
     },
 ];
 
-// What is committed of it: rows (0, 8), (8, 2048, zeroed) and (2097144, 8).
-const SEALED: Lower = Lower {
+/// What is committed of it: rows (0, 8), (8, 2048, zeroed) and (2097144, 8).
+pub const SEALED: Lower = Lower {
     uuid: 0x33,
     parent: 0x66,
     sectors: SECTORS,
     data: &[
-        0x71, 0x71, 0x71, 0x71, 0x71, 0x71, 0x71, 0x71, 0x72, 0x72, 0x72, 0x72, 0x72, 0x72, 0x72, 0x72,
+        0x71, 0x71, 0x71, 0x71, 0x71, 0x71, 0x71, 0x71, 0x72, 0x72, 0x72, 0x72, 0x72, 0x72, 0x72,
+        0x72,
     ],
     rows: &[
-        0, 0, 0, 0, 0, 0, 0x20, 0, 8, 0, 0, 0, 0, 0, 0, 0, 8, 0, 0, 0, 0, 0, 0, 0x20, 0, 0, 0, 0, 0, 0,
-        0x80, 0, 0xF8, 0xFF, 0x1F, 0, 0, 0, 0x20, 0, 16, 0, 0, 0, 0, 0, 0, 0,
+        0, 0, 0, 0, 0, 0, 0x20, 0, 8, 0, 0, 0, 0, 0, 0, 0, 8, 0, 0, 0, 0, 0, 0, 0x20, 0, 0, 0, 0,
+        0, 0, 0x80, 0, 0xF8, 0xFF, 0x1F, 0, 0, 0, 0x20, 0, 16, 0, 0, 0, 0, 0, 0, 0,
     ],
 };
 
 const LAST: u64 = 1_073_737_728;
 
-const USED_FIRST: [Ask; 1] = [Ask::WriteThrough(0, 4096, 0x71)];
+pub const USED_FIRST: [Ask; 1] = [Ask::WriteThrough(0, 4096, 0x71)];
 
-const USED_SECOND: [Ask; 4] = [
+pub const USED_SECOND: [Ask; 4] = [
     Ask::Write(LAST, 4096, 0x72),
     Ask::Trim(4096, 1_048_576),
     Ask::Read(4096, 4096, 0),
@@ -123,8 +132,12 @@ const READ_AGAIN: [Ask; 5] = [
 
 const COMMIT: &str = "commit 33333333-3333-3333-3333-333333333333";
 
-// Whether the first sealed file of the disk is this layer's.
-fn is_sealed(alloc: Global, disk: MemDisk, lower: &Lower) -> Result<(bool, MemDisk), AllocError> {
+/// Whether the first sealed file of the disk is this layer's.
+pub fn is_sealed(
+    alloc: Global,
+    disk: MemDisk,
+    lower: &Lower,
+) -> Result<(bool, MemDisk), AllocError> {
     let mut disk = disk;
     let wanted = layer_file(alloc, lower)?;
     let mut file = Vec::new(alloc);
@@ -135,6 +148,20 @@ fn is_sealed(alloc: Global, disk: MemDisk, lower: &Lower) -> Result<(bool, MemDi
         Err(_) => false,
     };
     Ok((is_read && is_whole && file == wanted, disk))
+}
+
+/// Whether two lanes over the large layers read what was written.
+pub fn is_read_again<R: Threads + Wait + Sync>(
+    rt: &R,
+    alloc: Global,
+    disk: MemDisk,
+) -> Result<bool, Fail> {
+    let signals = Signals::new();
+    let first = signals.first_client(&READ_AGAIN);
+    let second = signals.second_client(&READ_AGAIN);
+    let control = signals.controller(b"", b"");
+    let outcome = play(rt, alloc, disk, &LARGE, first, second, control)?;
+    Ok(is_served(alloc, &signals, &outcome, &READ_AGAIN, &READ_AGAIN, b"")?)
 }
 
 #[test]
@@ -150,23 +177,18 @@ fn what_two_lanes_wrote_is_committed_and_read_again(rt: HostRuntime) -> Result<(
         signals.second_client(&USED_SECOND),
         signals.controller(b"", b""),
     )?;
-    assert_eq!(rt; outcome.status, 0);
-    assert!(rt; is_answered(alloc, &outcome, 0, &USED_FIRST)?);
-    assert!(rt; is_answered(alloc, &outcome, 1, &USED_SECOND)?);
+    holds(
+        &rt,
+        is_served(alloc, &signals, &outcome, &USED_FIRST, &USED_SECOND, b"")?,
+        "both",
+    );
     let disk = run_on(alloc, outcome.disk, COMMIT, &LARGE)?;
     let (sealed, disk) = is_sealed(alloc, disk, &SEALED)?;
-    assert!(rt; sealed);
-    let again = play(
+    holds(&rt, sealed, "the sealed file");
+    holds(
         &rt,
-        alloc,
-        disk,
-        &LARGE,
-        signals.first_client(&READ_AGAIN),
-        signals.second_client(&READ_AGAIN),
-        signals.controller(b"", b""),
-    )?;
-    assert_eq!(rt; again.status, 0);
-    assert!(rt; is_answered(alloc, &again, 0, &READ_AGAIN)?);
-    assert!(rt; is_answered(alloc, &again, 1, &READ_AGAIN)?);
+        is_read_again(&rt, alloc, disk)?,
+        "every read is as before",
+    );
     Ok(())
 }

@@ -5,6 +5,8 @@
 #[cfg(test)]
 mod clients;
 #[cfg(test)]
+mod expecting;
+#[cfg(test)]
 mod harbours;
 #[cfg(test)]
 mod images;

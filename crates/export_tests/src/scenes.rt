@@ -9,7 +9,7 @@ use block_disk::MemDisk;
 use byte_ports::{MemSink, MemSource};
 use control_session::ControlEnd;
 use lane_export::{LaneList, Parts};
-use layer_shelf::{HeldShelf, Shelf};
+use layer_shelf::{HeldShelf, MemShelf, Shelf};
 use nbd_session::Served;
 use sector_extent::Bytes;
 use std::alloc::{AllocError, Global};
@@ -42,7 +42,7 @@ pub struct Controller<'a> {
     pub answers: &'a [u8],
 }
 
-type LaneShelf<'a> = HeldShelf<CountedShelf<'a>, Barrier<'a>>;
+type LaneShelf<'a> = HeldShelf<CountedShelf<'a, MemShelf>, Barrier<'a>>;
 
 fn shelf_behind<'a>(
     alloc: Global,
@@ -172,7 +172,14 @@ impl Signals {
 
     /// Whether somebody gave up waiting.
     pub fn were_given_up(&self) -> bool {
-        for signal in [&self.always, &self.accepted, &self.asked, &self.first, &self.second, &self.control] {
+        for signal in [
+            &self.always,
+            &self.accepted,
+            &self.asked,
+            &self.first,
+            &self.second,
+            &self.control,
+        ] {
             if signal.was_given_up() {
                 return true;
             }
@@ -205,7 +212,8 @@ pub fn play<'a, R: Threads + Wait + Sync>(
     let first_shelf = shelf_behind(alloc, lowers, first.reads, first.barrier)?;
     let second_shelf = shelf_behind(alloc, lowers, second.reads, second.barrier)?;
     let control_shelf = shelf_behind(alloc, lowers, control.reads, control.barrier)?;
-    if first_shelf.count() != control_shelf.count() || second_shelf.count() != control_shelf.count()
+    if first_shelf.count() != control_shelf.count()
+        || second_shelf.count() != control_shelf.count()
     {
         return Err(Fail::new("other files"));
     }
@@ -234,8 +242,8 @@ pub fn play<'a, R: Threads + Wait + Sync>(
     })
 }
 
-/// Whether the client with that number was sent the replies to this, to its end.
-pub fn is_answered(
+// Whether the client with that number was sent the replies to this, to its end.
+fn is_answered(
     alloc: Global,
     outcome: &Outcome,
     number: usize,
@@ -244,8 +252,25 @@ pub fn is_answered(
     let wanted = replies(alloc, asks)?;
     Ok(match outcome.clients.as_slice().get(number) {
         Some(Some(answered)) => {
-            answered.end == Served::Done && is_sent(answered.sent.as_slice(), wanted.as_slice())
+            answered.end == Served::Done && is_sent(answered.sent.as_slice(), &wanted)
         }
         _ => false,
     })
+}
+
+/// Whether all went well: nobody gave up waiting, the status is 0, and both clients and the control were
+/// answered.
+pub fn is_served(
+    alloc: Global,
+    signals: &Signals,
+    outcome: &Outcome,
+    first: &[Ask],
+    second: &[Ask],
+    control: &[u8],
+) -> Result<bool, AllocError> {
+    let first = is_answered(alloc, outcome, 0, first)?;
+    let second = is_answered(alloc, outcome, 1, second)?;
+    let control = outcome.control.as_slice() == control;
+    let ended = outcome.status == 0 && !signals.were_given_up();
+    Ok(first && second && control && ended)
 }

@@ -4,7 +4,7 @@ ghost use Rattle.std.specs.Prelude.{◌≡◌, ◌+◌, ◌<◌, ◌≤◌, leng
 
 use byte_ports::{MemSink, MemSource, PortFailed, Sink, Source};
 use lane_serve::{ListenFailed, Listener};
-use layer_shelf::{Gate, MemShelf, Shelf, ShelfFailed};
+use layer_shelf::{Gate, Shelf, ShelfFailed};
 use nbd_session::Served;
 use sector_extent::Bytes;
 use std::hint::spin_loop;
@@ -82,19 +82,19 @@ impl<'a> Gate for Barrier<'a> {
     }
 }
 
-/// A shelf in memory that raises a signal at each read. It tells nothing.
+/// A shelf that raises a signal at each read. It tells nothing.
 #[derive(Drop)]
-pub struct CountedShelf<'a> {
-    pub files: MemShelf,
+pub struct CountedShelf<'a, S> {
+    pub files: S,
     pub reads: &'a Signal,
 }
 
-impl<'a> Shelf for CountedShelf<'a> {
+impl<'a, S: Shelf> Shelf for CountedShelf<'a, S> {
     ghost files = { λ _. None };
 
-    ghost count = { λ s. length s.files.files };
+    ghost count = { λ s. S.count s.files };
 
-    ghost faults = { λ s. s.files.faults };
+    ghost faults = { λ s. S.faults s.files };
 
     ghost counted = { λ _. tt };
 

@@ -1,18 +1,14 @@
 //! The status of an export, and which connections come back.
-ghost use Rattle.std.specs.Prelude.{◌≡◌, length};
-
-use crate::clients::{Ask, is_sent, replies, requests};
-use crate::harbours::export_from;
+use crate::clients::{Ask, requests};
+use crate::expecting::holds;
+use crate::harbours::{answered, export_one};
 use crate::images::{FIRST, Lower, image_over, no_calls, shelf_of};
-use crate::signals::{CountedShelf, Signal};
 use block_disk::MemDisk;
-use byte_ports::{MemSink, MemSource};
-use lane_export::{LaneList, Parts};
-use lane_serve::{MemListener, TakenList};
-use layer_shelf::Shelf;
+use lane_serve::TakenList;
 use nbd_session::Served;
-use sector_extent::{Bytes, CallList, FileTexts};
+use sector_extent::{CallList, FileTexts};
 use std::alloc::{AllocError, Global};
+use std::process::Abort;
 use std::sync::Wait;
 use std::test::Fail;
 use std::thread::Threads;
@@ -24,7 +20,7 @@ const ASKS: [Ask; 3] = [
 ];
 
 // Whose call with that number fails.
-#[derive(Clone, Copy, Debug)]
+#[derive(Clone, Copy)]
 enum Failing {
     Nobody,
     Listener(u64),
@@ -74,7 +70,7 @@ fn connections(alloc: Global, count: usize) -> Result<FileTexts, AllocError> {
 }
 
 // Exports over these layers, with one lane and two connections: the status, and what came back.
-fn export_one<R: Threads + Wait + Sync>(
+fn export_failing<R: Threads + Wait + Sync>(
     rt: &R,
     alloc: Global,
     line: &str,
@@ -82,55 +78,19 @@ fn export_one<R: Threads + Wait + Sync>(
     lowers: &[Lower],
     failing: Failing,
 ) -> Result<(u8, TakenList<Served>), Fail> {
-    let reads = Signal::new();
-    let shelf = CountedShelf {
-        files: shelf_of(alloc, lowers, no_calls(alloc))?,
-        reads: &reads,
-    };
-    let control_shelf = CountedShelf {
-        files: shelf_of(alloc, lowers, calls(alloc, shelf_fails(failing))?)?,
-        reads: &reads,
-    };
-    if shelf.count() != control_shelf.count() {
-        return Err(Fail::new("other files"));
-    }
-    let listener = MemListener::new(
+    export_one(
+        rt,
         alloc,
+        line,
+        stopped(disk, failing),
+        shelf_of(alloc, lowers, no_calls(alloc))?,
+        shelf_of(alloc, lowers, calls(alloc, shelf_fails(failing))?)?,
         connections(alloc, 2)?,
         calls(alloc, listener_fails(failing))?,
-    );
-    let mut lanes = Vec::new(alloc);
-    lanes.push((shelf, listener))?;
-    let parts = Parts {
-        disk: stopped(disk, failing),
-        lanes: LaneList::from_vec(lanes),
-        control_shelf,
-        control_source: MemSource::new(Bytes::from_vec(Vec::new(alloc)), no_calls(alloc)),
-        control_sink: MemSink::new(alloc, no_calls(alloc)),
-    };
-    let exported = export_from(rt, alloc, line, parts)?;
-    let Some((_, listener)) = exported.parts.lanes.into_vec().pop() else {
-        return Err(Fail::new("a lane"));
-    };
-    Ok((exported.status, listener.into_taken()))
+    )
 }
 
-// How many connections came back, all of them with the right replies; none where one of them has others.
-fn answered(alloc: Global, taken: TakenList<Served>) -> Result<Option<usize>, AllocError> {
-    let wanted = replies(alloc, &ASKS)?;
-    let mut count = 0;
-    for connection in taken.into_vec() {
-        let sent = connection.sink.into_bytes();
-        if connection.end != Served::Done || !is_sent(sent.as_slice(), wanted.as_slice()) {
-            return Ok(None);
-        }
-        count += 1;
-    }
-    Ok(Some(count))
-}
-
-// A layer that has the uuid of its parent, one over a layer that is not there, and one whose data are
-// longer than its rows say.
+// A layer without a uuid, one over a layer that is not there, and one of another size than the image.
 const NO_UUID: Lower = Lower { uuid: 0, ..FIRST };
 
 const ORPHAN: Lower = Lower {
@@ -143,7 +103,10 @@ const LARGER: Lower = Lower {
     ..FIRST
 };
 
-const CASES: [(&str, Lower, Failing, u8, usize); 17] = [
+// The words, the layer, who fails, the status, and how many connections come back.
+type Case = (&'static str, Lower, Failing, u8, usize);
+
+const CASES: [Case; 17] = [
     ("export", FIRST, Failing::Nobody, 0, 2),
     ("export --connections 2", FIRST, Failing::Nobody, 0, 2),
     ("export --connections=1", FIRST, Failing::Nobody, 0, 1),
@@ -163,50 +126,81 @@ const CASES: [(&str, Lower, Failing, u8, usize); 17] = [
     ("export", FIRST, Failing::Disk(0), 4, 0),
 ];
 
-#[test]
-fn an_export_ends_with_its_status(rt: HostRuntime) -> Result<(), Fail> {
-    let alloc = rt.alloc();
-    for (line, lower, failing, status, count) in CASES {
-        let disk = image_over(alloc, &[FIRST])?;
-        let (found, taken) = export_one(&rt, alloc, line, disk, &[lower], failing)?;
-        assert_eq!(rt; found, status, "{line}, {failing:?}");
-        assert_eq!(rt;
-            answered(alloc, taken)?,
-            Some(count),
-            "{line}, {failing:?}"
-        );
+// Whether an export over this layer ends with that status, and so many connections come back.
+fn ends_with<R: Threads + Wait + Sync>(rt: &R, alloc: Global, case: Case) -> Result<bool, Fail> {
+    let (line, lower, failing, status, count) = case;
+    let disk = image_over(alloc, &[FIRST])?;
+    let (found, taken) = export_failing(rt, alloc, line, disk, &[lower], failing)?;
+    Ok(found == status && answered(alloc, taken, &ASKS)? == Some(count))
+}
+
+fn end_with<R: Threads + Wait + Sync + Abort>(
+    rt: &R,
+    alloc: Global,
+    cases: &[Case],
+) -> Result<(), Fail> {
+    for case in cases {
+        holds(rt, ends_with(rt, alloc, *case)?, case.0);
     }
     Ok(())
+}
+
+#[test]
+fn an_export_ends_with_its_status(rt: HostRuntime) -> Result<(), Fail> {
+    end_with(&rt, rt.alloc(), &CASES)
+}
+
+// Whether an export of an empty disk over these layers is refused.
+fn has_no_image<R: Threads + Wait + Sync>(
+    rt: &R,
+    alloc: Global,
+    lowers: &[Lower],
+) -> Result<bool, Fail> {
+    let disk = MemDisk::new(alloc);
+    let (status, taken) = export_failing(rt, alloc, "export", disk, lowers, Failing::Nobody)?;
+    Ok(status == 3 && answered(alloc, taken, &ASKS)? == Some(0))
 }
 
 #[test]
 fn nothing_is_exported_without_an_image(rt: HostRuntime) -> Result<(), Fail> {
-    let alloc = rt.alloc();
-    for lowers in [[].as_slice(), [FIRST].as_slice()] {
-        let disk = MemDisk::new(alloc);
-        let (status, taken) = export_one(&rt, alloc, "export", disk, lowers, Failing::Nobody)?;
-        assert_eq!(rt; (status, answered(alloc, taken)?), (3, Some(0)));
-    }
+    holds(&rt, has_no_image(&rt, rt.alloc(), &[])?, "no layers");
+    holds(&rt, has_no_image(&rt, rt.alloc(), &[FIRST])?, "a layer");
     Ok(())
 }
 
-// Each call of the disk is in turn the first that fails, up to those of the last flush.
+// The status of an export whose disk stops at that call, where it is 0, or 4 with all connections that
+// were given taken back.
+fn status_at<R: Threads + Wait + Sync>(
+    rt: &R,
+    alloc: Global,
+    call: u64,
+) -> Result<Option<u8>, Fail> {
+    let disk = image_over(alloc, &[FIRST])?;
+    let failing = Failing::Disk(call);
+    let (status, taken) = export_failing(rt, alloc, "export", disk, &[FIRST], failing)?;
+    let count = answered(alloc, taken, &ASKS)?;
+    Ok(match (status, count) {
+        (0, Some(2)) => Some(0),
+        (4, Some(0)) | (4, Some(2)) => Some(4),
+        _ => None,
+    })
+}
+
+// How many calls of the disk an export makes, each of which is in turn the first that fails.
+fn calls_of<R: Threads + Wait + Sync>(rt: &R, alloc: Global) -> Result<Option<u64>, Fail> {
+    for call in 0..1000 {
+        match status_at(rt, alloc, call)? {
+            Some(0) => return Ok(Some(call)),
+            Some(_) => {}
+            None => return Ok(None),
+        }
+    }
+    Ok(None)
+}
+
 #[test]
 fn a_disk_that_stops_is_told(rt: HostRuntime) -> Result<(), Fail> {
-    let alloc = rt.alloc();
-    let mut last = 0;
-    for call in 0..1000 {
-        let disk = image_over(alloc, &[FIRST])?;
-        let failing = Failing::Disk(call);
-        let (status, taken) = export_one(&rt, alloc, "export", disk, &[FIRST], failing)?;
-        if status == 0 {
-            last = call;
-            break;
-        }
-        assert_eq!(rt; status, 4, "{call}");
-        let count = answered(alloc, taken)?;
-        assert!(rt; count == Some(0) || count == Some(2), "{call}");
-    }
-    assert!(rt; last > 10, "{last}");
+    let count = calls_of(&rt, rt.alloc())?;
+    holds(&rt, count > Some(10), "each call of the disk");
     Ok(())
 }
