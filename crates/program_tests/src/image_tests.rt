@@ -45,10 +45,25 @@ fn take_steps<D: Disk + Drop>(
 const LIFE: [Step; 13] = [
     ("read 0 1", &[], 3, Said::Text("refused: no image\n")),
     ("create", &[], 6, Said::Text("refused: no size\n")),
-    ("create --sectors 8", &[], 0, Said::Text("created sectors 8 layers 0\n")),
-    ("create --sectors 8", &[], 6, Said::Text("refused: image exists\n")),
+    (
+        "create --sectors 8",
+        &[],
+        0,
+        Said::Text("created sectors 8 layers 0\n"),
+    ),
+    (
+        "create --sectors 8",
+        &[],
+        6,
+        Said::Text("refused: image exists\n"),
+    ),
     ("read 0 9", &[], 6, Said::Text("refused: out of range\n")),
-    ("write 7", &[0x41, 0x41], 6, Said::Text("refused: out of range\n")),
+    (
+        "write 7",
+        &[0x41, 0x41],
+        6,
+        Said::Text("refused: out of range\n"),
+    ),
     ("write 3", &[0x41, 0x41], 0, Said::Text("wrote 3 2\n")),
     ("zero 4 1", &[], 0, Said::Text("zeroed 4 1\n")),
     ("read 3 1", &[], 0, Said::Sectors(&[0x41])),
@@ -72,9 +87,24 @@ const OVER_A_LAYER: [Step; 3] = [
 ];
 
 const LARGER: [Step; 3] = [
-    ("create --sectors 3", &[], 6, Said::Text("refused: other size\n")),
-    ("create --sectors 8", &[], 0, Said::Text("created sectors 8 layers 1\n")),
-    ("read 0 8", &[], 0, Said::Sectors(&[0, 0x61, 0x62, 0, 0, 0, 0, 0])),
+    (
+        "create --sectors 3",
+        &[],
+        6,
+        Said::Text("refused: other size\n"),
+    ),
+    (
+        "create --sectors 8",
+        &[],
+        0,
+        Said::Text("created sectors 8 layers 1\n"),
+    ),
+    (
+        "read 0 8",
+        &[],
+        0,
+        Said::Sectors(&[0, 0x61, 0x62, 0, 0, 0, 0, 0]),
+    ),
 ];
 
 #[test]
@@ -88,7 +118,12 @@ fn an_image_lies_over_a_layer(rt: HostRuntime) -> Result<(), Fail> {
 const FOLDER: &str = "overlay_tool_test";
 
 const WRITTEN: [Step; 2] = [
-    ("create --sectors 8", &[], 0, Said::Text("created sectors 8 layers 0\n")),
+    (
+        "create --sectors 8",
+        &[],
+        0,
+        Said::Text("created sectors 8 layers 0\n"),
+    ),
     ("write 3", &[0x41, 0x41], 0, Said::Text("wrote 3 2\n")),
 ];
 
@@ -103,7 +138,13 @@ fn an_image_in_a_folder_is_opened_again(rt: HostRuntime) -> Result<(), Fail> {
     let alloc = rt.alloc();
     let _ = fs::remove_dir_all(&rt, FOLDER);
     fs::create_dir(&rt, FOLDER)?;
-    let closed = take_steps(&rt, alloc, FolderDisk::new(rt, folder(alloc)?), &[], &WRITTEN)?;
+    let closed = take_steps(
+        &rt,
+        alloc,
+        FolderDisk::new(rt, folder(alloc)?),
+        &[],
+        &WRITTEN,
+    )?;
     drop(closed);
     let closed = take_steps(&rt, alloc, FolderDisk::new(rt, folder(alloc)?), &[], &READ)?;
     drop(closed);
@@ -121,7 +162,12 @@ fn sealed_file<D: Disk>(alloc: Global, disk: &mut D, length: usize) -> Result<Ve
 }
 
 const COMMITTED: [Step; 6] = [
-    ("create --sectors 8", &[], 0, Said::Text("created sectors 8 layers 0\n")),
+    (
+        "create --sectors 8",
+        &[],
+        0,
+        Said::Text("created sectors 8 layers 0\n"),
+    ),
     ("write 3", &[0x61, 0x62, 0x63], 0, Said::Text("wrote 3 3\n")),
     ("write 4", &[0x64], 0, Said::Text("wrote 4 1\n")),
     ("zero 5 1", &[], 0, Said::Text("zeroed 5 1\n")),

@@ -148,12 +148,36 @@ const CASES: [Case; 44] = [
         4,
         "source fault",
     ),
-    ("write 0", 512, &[], true, Failing::Source, 4, "source fault"),
+    (
+        "write 0",
+        512,
+        &[],
+        true,
+        Failing::Source,
+        4,
+        "source fault",
+    ),
     ("stack", 0, &[FIRST], false, Failing::Sink, 4, "sink fault"),
     ("info 0", 0, &[FIRST], false, Failing::Sink, 4, "sink fault"),
     ("create", 0, &[FIRST], false, Failing::Sink, 4, "sink fault"),
-    ("flatten", 0, &[FIRST], false, Failing::Shelf, 4, "shelf fault"),
-    ("create", 0, &[FIRST], false, Failing::Shelf, 4, "shelf fault"),
+    (
+        "flatten",
+        0,
+        &[FIRST],
+        false,
+        Failing::Shelf,
+        4,
+        "shelf fault",
+    ),
+    (
+        "create",
+        0,
+        &[FIRST],
+        false,
+        Failing::Shelf,
+        4,
+        "shelf fault",
+    ),
     ("create", 0, &[FIRST], false, Failing::Disk, 4, "disk fault"),
     ("read 0 1", 0, &[], true, Failing::Disk, 4, "disk fault"),
     ("info 1", 0, &[FIRST], false, NOBODY, 6, "no layer"),
@@ -245,7 +269,11 @@ fn an_image_over_255_layers_is_not_committed(rt: HostRuntime) -> Result<(), Fail
     // its uuid is that of a layer too, and the number is looked at first
     let layers = tall_stack(alloc)?;
     let ran = answer(alloc, COMMIT, Vec::new(alloc), layers, made.disk, NOBODY)?;
-    holds(&rt, is_refused(&ran, 6, "too many layers"), "too many layers");
+    holds(
+        &rt,
+        is_refused(&ran, 6, "too many layers"),
+        "too many layers",
+    );
     Ok(())
 }
 

@@ -30,17 +30,57 @@ const STACK: &str = "0 11111111-1111-1111-1111-111111111111 sectors 4 rows 1\n\
 type Case = (&'static str, &'static [Layer], u8, Said);
 
 const CASES: [Case; 11] = [
-    ("flatten", &[FIRST, SECOND], 0, Said::Sectors(&[0, 0x61, 0x62, 0])),
-    ("flatten", &[FIRST, THIRD], 0, Said::Sectors(&[0, 0x61, 0, 0])),
-    ("flatten", &[SECOND, FIRST], 3, Said::Text("refused: layer 0 parent\n")),
+    (
+        "flatten",
+        &[FIRST, SECOND],
+        0,
+        Said::Sectors(&[0, 0x61, 0x62, 0]),
+    ),
+    (
+        "flatten",
+        &[FIRST, THIRD],
+        0,
+        Said::Sectors(&[0, 0x61, 0, 0]),
+    ),
+    (
+        "flatten",
+        &[SECOND, FIRST],
+        3,
+        Said::Text("refused: layer 0 parent\n"),
+    ),
     ("flatten", &[], 3, Said::Text("refused: stack empty\n")),
-    ("flatten", &[FIRST, FOURTH], 0, Said::Sectors(&[0, 0x61, 0x62, 0, 0, 0x64])),
-    ("flatten", &[FIRST, OLD], 3, Said::Text("refused: layer 1 size\n")),
-    ("flatten", &[FIRST, LESS], 3, Said::Text("refused: layer 1 size\n")),
-    ("flatten", &[FIRST, NEWER], 3, Said::Text("refused: layer 1: bad version 3\n")),
+    (
+        "flatten",
+        &[FIRST, FOURTH],
+        0,
+        Said::Sectors(&[0, 0x61, 0x62, 0, 0, 0x64]),
+    ),
+    (
+        "flatten",
+        &[FIRST, OLD],
+        3,
+        Said::Text("refused: layer 1 size\n"),
+    ),
+    (
+        "flatten",
+        &[FIRST, LESS],
+        3,
+        Said::Text("refused: layer 1 size\n"),
+    ),
+    (
+        "flatten",
+        &[FIRST, NEWER],
+        3,
+        Said::Text("refused: layer 1: bad version 3\n"),
+    ),
     ("info 0", &[FIRST, SECOND], 0, Said::Text(HEAD)),
     ("stack", &[FIRST, SECOND], 0, Said::Text(STACK)),
-    ("info 02", &[FIRST, SECOND], 6, Said::Text("refused: no layer\n")),
+    (
+        "info 02",
+        &[FIRST, SECOND],
+        6,
+        Said::Text("refused: no layer\n"),
+    ),
 ];
 
 // Whether a command over layers does what the case says.
@@ -48,7 +88,14 @@ fn is_done(alloc: Global, case: Case) -> Result<bool, Fail> {
     let (line, layers, code, said) = case;
     let files = files_of(alloc, layers)?;
     let none = Vec::new(alloc);
-    let ran = run(alloc, MemDisk::new(alloc), line, none, files, Failing::Nobody)?;
+    let ran = run(
+        alloc,
+        MemDisk::new(alloc),
+        line,
+        none,
+        files,
+        Failing::Nobody,
+    )?;
     Ok(answers(alloc, &ran, code, said)?)
 }
 
@@ -76,9 +123,17 @@ fn is_flattened(alloc: Global, file: Vec<u8>, code: u8, said: Said) -> Result<bo
 fn a_layer_from_the_source_is_flattened(rt: HostRuntime) -> Result<(), Fail> {
     let alloc = rt.alloc();
     let first = Said::Sectors(&[0, 0x61, 0x62, 0]);
-    holds(&rt, is_flattened(alloc, layer_file(alloc, FIRST)?, 0, first)?, "L1");
+    holds(
+        &rt,
+        is_flattened(alloc, layer_file(alloc, FIRST)?, 0, first)?,
+        "L1",
+    );
     let zeros = Said::Sectors(&[0; 4]);
-    holds(&rt, is_flattened(alloc, layer_file(alloc, THIRD)?, 0, zeros)?, "L3");
+    holds(
+        &rt,
+        is_flattened(alloc, layer_file(alloc, THIRD)?, 0, zeros)?,
+        "L3",
+    );
     Ok(())
 }
 
@@ -87,7 +142,11 @@ fn a_short_source_is_no_layer(rt: HostRuntime) -> Result<(), Fail> {
     let short = Said::Text("refused: layer 0: short\n");
     for length in [0, 8191] {
         let file = vec![in rt.alloc(); 0; length]?;
-        holds(&rt, is_flattened(rt.alloc(), file, 3, short)?, "a short source");
+        holds(
+            &rt,
+            is_flattened(rt.alloc(), file, 3, short)?,
+            "a short source",
+        );
     }
     Ok(())
 }
