@@ -1,80 +1,25 @@
 //! Connections and callers over seats of one image.
-ghost use Rattle.std.specs.Prelude.{◌≡◌, ◌+◌, ◌*◌, ◌^◌, ◌<◌, ◌≤◌, [], false, length, All, IfOk, IfSome};
-ghost use Rattle.lsmt_header.specs.Blocks.{IsSize};
-ghost use Rattle.turn_lock.specs.Locks.{AreSeats};
+ghost use Rattle.std.specs.Prelude.{◌≡◌, ◌+◌, ◌*◌, ◌^◌, ◌<◌, ◌≤◌, [], length, All, IfSome};
 ghost use Rattle.flat_image.specs.History.{History};
-ghost use Rattle.image_core.specs.Creating.{fresh_at};
-ghost use Rattle.image_core.specs.Seen.{seen, view, faults_in, StandsFor};
 ghost use Rattle.shared_image.specs.Turns.{IsIdleSeat, IsSameSeat};
 ghost use Rattle.nbd_session.specs.Sessions.{ends};
 ghost use Rattle.image_read.specs.Headline.{Headline};
 
+use crate::images::{holds, started};
 use block_disk::{Disk, MemDisk};
 use byte_ports::{MemSink, MemSource, Sink, Source};
 use flat_image::ImagePort;
-use image_core::{CopyState, Image, LayerList};
+use image_core::CopyState;
 use image_read::{Reader, headline_law};
 use layer_shelf::{MemShelf, Shelf};
 use nbd_session::{Export, NameBytes, Served, serve_connection};
 use sector_extent::{Bytes, CallList, Extent, FileTexts};
 use shared_image::{ImageSeat, SharedImage};
 use std::alloc::{AllocError, Global};
-use std::marker::Brand;
 use std::sync::Wait;
 use std::test::Fail;
 use std::thread;
 use std::thread::Threads;
-use turn_lock::SeatList;
-
-// No lower layers.
-fn none(alloc: Global) -> LayerList
-    ensures { result ≡ [] }
-{
-    LayerList::from_vec(Vec::new(alloc))
-}
-
-// An image without layers in which nothing was written.
-fn new_image<D: Disk + Drop>(alloc: Global, disk: D, sectors: u64) -> Result<Image<D>, Fail>
-    requires { IsSize sectors }
-    ensures sectors { IfOk result (λ image. (view image).sectors ≡ sectors) }
-    ensures stands { IfOk result (λ image.
-        StandsFor (seen D.Disk image) (fresh_at (view image).sectors [] (faults_in D.Disk image)) []) }
-{
-    match Image::create(alloc, disk, none(alloc), sectors) {
-        Ok(image) => Ok(image),
-        Err((disk, _)) => {
-            let _disk = disk;
-            Err(Fail::from("no image was made"))
-        }
-    }
-}
-
-// The same, shared by so many seats.
-fn started<D: Disk + Drop>(
-    alloc: Global,
-    disk: D,
-    sectors: u64,
-    seats: u32,
-    first: u64,
-) -> Result<(SharedImage<D>, SeatList<Image<D>>), Fail>
-    requires size { IsSize sectors }
-    requires seats { 0 < seats }
-    requires first { first ≤ 2 ^ 62 }
-    ensures lowers { IfOk result (λ made. made.0.base.lowers ≡ []) }
-    ensures sectors { IfOk result (λ made. made.0.base.sectors ≡ sectors) }
-    ensures first { IfOk result (λ made. made.0.first ≡ first) }
-    ensures seats { IfOk result (λ made. (made.0.seats ≡ seats) × AreSeats made.0.id seats made.1) }
-    ensures seen { IfOk result (λ made. All (λ s. s.seen ≡ []) made.1) }
-{
-    let image = new_image(alloc, disk, sectors)?;
-    match SharedImage::start::<Brand>(alloc, image, seats, first) {
-        Ok(made) => Ok(made),
-        Err((image, _)) => {
-            let _image = image;
-            Err(Fail::from("it is not shared"))
-        }
-    }
-}
 
 // A shelf without files.
 fn no_files(alloc: Global) -> MemShelf
@@ -200,10 +145,8 @@ fn a_worn_image_shuts_down(rt: HostRuntime) -> Result<(), Fail> {
     let Some(seat) = list.into_vec().pop() else {
         return Err("a seat")?;
     };
-    assert_eq!(rt;
-        two_flushes(&rt, alloc, &shared, seat)?,
-        [Some(0), Some(108)]
-    );
+    let errors = two_flushes(&rt, alloc, &shared, seat)?;
+    holds(&rt, errors == [Some(0), Some(108)], "the second flush");
     Ok(())
 }
 
@@ -247,7 +190,8 @@ fn a_reader_sees_what_its_seat_met(rt: HostRuntime) -> Result<(), Fail> {
     let Some(from) = list.pop() else {
         return Err("a seat")?;
     };
-    assert_eq!(rt; read_behind(&rt, alloc, &shared, from, to)?, [0x61; 512]);
+    let sector = read_behind(&rt, alloc, &shared, from, to)?;
+    holds(&rt, sector == [0x61; 512], "the sector");
     Ok(())
 }
 
@@ -295,6 +239,12 @@ fn filled<D: Disk, R: Wait>(
     sent_to(alloc, filling_requests(alloc)?, &mut reader)
 }
 
+// Whether the last of these replies is to a read of a sector, which is of zeros.
+fn ends_with_zeros(replies: &[u8]) -> bool {
+    let read = replies.get(16 * 466_037..).unwrap_or(&[]);
+    read.len() == 528 && error_at(read, 0) == Some(0) && read.iter().skip(16).all(|byte| *byte == 0)
+}
+
 #[test]
 fn a_full_top_is_told(rt: HostRuntime) -> Result<(), Fail> {
     let alloc = rt.alloc();
@@ -303,11 +253,13 @@ fn a_full_top_is_told(rt: HostRuntime) -> Result<(), Fail> {
         return Err("a seat")?;
     };
     let sent = filled(&rt, alloc, &shared, seat)?;
-    let (_, replies) = sent.as_slice().split_at(GREETED.min(sent.as_slice().len()));
-    assert_eq!(rt; first_error(replies), Some((466_036, 28)));
-    let read = replies.get(16 * 466_037..).unwrap_or(&[]);
-    assert_eq!(rt; (error_at(read, 0), read.len()), (Some(0), 528));
-    assert!(rt; read.iter().skip(16).all(|byte| *byte == 0));
+    let replies = sent.as_slice().get(GREETED..).unwrap_or(&[]);
+    holds(
+        &rt,
+        first_error(replies) == Some((466_036, 28)),
+        "the first error",
+    );
+    holds(&rt, ends_with_zeros(replies), "zeros");
     Ok(())
 }
 
@@ -365,7 +317,7 @@ fn write_and_commit<D: Disk, R: Wait>(
         && shared.seal(rt, seat, uuid).is_ok()
 }
 
-// Writes the bytes 1 to 40, one after another, with a commit behind each.
+// Writes the bytes 1 to 100, one after another, with a commit behind each.
 fn write_on<D: Disk, R: Wait>(
     rt: &R,
     alloc: Global,
@@ -376,7 +328,7 @@ fn write_on<D: Disk, R: Wait>(
     requires seat { IsIdleSeat shared.now seat.old }
     ensures same { IsSameSeat seat.old seat.new }
 {
-    for byte in 1..41u8 {
+    for byte in 1..101u8 {
         if !write_and_commit(rt, alloc, shared, seat, byte) {
             return false;
         }
@@ -397,7 +349,7 @@ fn work<'a, D: Disk, R: Wait>(
         worker.done = write_on(rt, alloc, shared, seat);
     }
     if let Some(reader) = &mut worker.reader {
-        worker.done = read_on(reader, 100);
+        worker.done = read_on(reader, 10_000);
     }
 }
 
@@ -465,6 +417,7 @@ fn no_write_is_read_in_part(rt: HostRuntime) -> Result<(), Fail> {
     let (Some(third), Some(second), Some(first)) = (list.pop(), list.pop(), list.pop()) else {
         return Err("seats")?;
     };
-    assert!(rt; worked(&rt, alloc, &shared, first, second, third)?);
+    let all = worked(&rt, alloc, &shared, first, second, third)?;
+    holds(&rt, all, "no write in part");
     Ok(())
 }

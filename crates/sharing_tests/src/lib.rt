@@ -4,4 +4,6 @@
 #[cfg(test)]
 mod image_read_tests;
 #[cfg(test)]
+mod images;
+#[cfg(test)]
 mod shared_image_tests;

@@ -1,79 +1,27 @@
 //! Seats of one image, one after another and at once.
-ghost use Rattle.std.specs.Prelude.{◌≡◌, ◌+◌, ◌*◌, ◌^◌, ◌<◌, ◌≤◌, [], false, length, IfOk};
-ghost use Rattle.lsmt_header.specs.Blocks.{IsSize, nil};
+ghost use Rattle.std.specs.Prelude.{◌≡◌, ◌+◌, ◌*◌, ◌<◌, ◌≤◌, false, length, IfOk};
+ghost use Rattle.lsmt_header.specs.Blocks.{nil};
 ghost use Rattle.turn_lock.specs.Locks.{AreSeats};
-ghost use Rattle.image_core.specs.Creating.{fresh_at};
-ghost use Rattle.image_core.specs.Seen.{seen, view, faults_in, IsImage, StandsFor};
+ghost use Rattle.image_core.specs.Seen.{seen, IsImage};
 ghost use Rattle.image_core.specs.Steps.{MayStep, MayRun};
 ghost use Rattle.shared_image.specs.Turns.{IsIdleSeat, IsSameSeat};
 
+use crate::images::{holds, new_image, started};
 use block_disk::{Disk, MemDisk};
 use flat_image::PortFault;
-use image_core::{
-    CopyState, Image, LayerList, Numbered, ReplyList, Status, Step, StepList, run_steps,
-};
+use image_core::{CopyState, Image, Numbered, ReplyList, Status, Step, StepList, run_steps};
 use sector_extent::{Bytes, Extent, GapList, ListOf, Memory};
 use shared_image::{ImageSeat, SharedImage, acknowledged_law, committed_law, one_thread_law};
 use std::alloc::Global;
-use std::marker::Brand;
 use std::sync::Wait;
 use std::test::Fail;
 use std::thread;
 use std::thread::Threads;
-use turn_lock::SeatList;
 
 // The sectors of the image, and those that each of four seats has for itself.
 const SECTORS: u64 = 16;
 
 const OWN: u64 = 4;
-
-// No lower layers.
-fn none(alloc: Global) -> LayerList
-    ensures { result ≡ [] }
-{
-    LayerList::from_vec(Vec::new(alloc))
-}
-
-// An image of so many sectors in which nothing was written.
-fn new_image<D: Disk + Drop>(alloc: Global, disk: D, sectors: u64) -> Result<Image<D>, Fail>
-    requires { IsSize sectors }
-    ensures stands { IfOk result (λ image.
-        StandsFor (seen D.Disk image) (fresh_at (view image).sectors [] (faults_in D.Disk image)) []) }
-    ensures sectors { IfOk result (λ image. (view image).sectors ≡ sectors) }
-    ensures steps { IfOk result (λ image. (view image).steps ≡ 0) }
-{
-    match Image::create(alloc, disk, none(alloc), sectors) {
-        Ok(image) => Ok(image),
-        Err((disk, _)) => {
-            let _disk = disk;
-            Err(Fail::from("no image was made"))
-        }
-    }
-}
-
-// The same, shared by so many seats.
-fn started<D: Disk + Drop>(
-    alloc: Global,
-    disk: D,
-    sectors: u64,
-    seats: u32,
-    first: u64,
-) -> Result<(SharedImage<D>, SeatList<Image<D>>), Fail>
-    requires size { IsSize sectors }
-    requires seats { 0 < seats }
-    requires first { first ≤ 2 ^ 62 }
-    ensures sectors { IfOk result (λ made. made.0.base.sectors ≡ sectors) }
-    ensures seats { IfOk result (λ made. (made.0.seats ≡ seats) × AreSeats made.0.id seats made.1) }
-{
-    let image = new_image(alloc, disk, sectors)?;
-    match SharedImage::start::<Brand>(alloc, image, seats, first) {
-        Ok(made) => Ok(made),
-        Err((image, _)) => {
-            let _image = image;
-            Err(Fail::from("it is not shared"))
-        }
-    }
-}
 
 // Two flushes by one seat.
 fn flush_twice<D: Disk, R: Wait>(
@@ -100,9 +48,11 @@ fn a_shared_image_wears_out(rt: HostRuntime) -> Result<(), Fail> {
     let Some(seat) = list.into_vec().pop() else {
         return Err("a seat")?;
     };
-    assert_eq!(rt;
-        flush_twice(&rt, &shared, seat),
-        [Ok(()), Err(PortFault::Worn)]
+    let answers = flush_twice(&rt, &shared, seat);
+    holds(
+        &rt,
+        answers == [Ok(()), Err(PortFault::Worn)],
+        "the second flush",
     );
     Ok(())
 }
@@ -145,8 +95,8 @@ fn seats_meet(rt: HostRuntime) -> Result<(), Fail> {
         return Err("a seat")?;
     };
     let (out, whole, count) = planned_behind(&rt, alloc, &shared, from, to)?;
-    assert_eq!(rt; out, [0x61; 512]);
-    assert_eq!(rt; (whole, count), (true, 9));
+    holds(&rt, out == [0x61; 512], "the sector");
+    holds(&rt, whole && count == 9, "the status");
     Ok(())
 }
 
@@ -347,6 +297,22 @@ fn committed_beside<D: Disk, R: Wait>(
     Ok((states, epoch, out, told))
 }
 
+fn are_copied(states: [CopyState; 5]) -> bool {
+    let more = CopyState::More;
+    states == [more, more, more, more, CopyState::Whole]
+}
+
+// Whether this is the status of an image with one layer, after a write, the freeze, a write beside each
+// copy, the seal and the plan.
+fn is_told(told: (Status, u64)) -> bool {
+    let status = Status {
+        sectors: MANY,
+        layers: 1,
+        pending: None,
+    };
+    told == (status, 9)
+}
+
 #[test]
 fn a_commit_is_copied_in_five_turns(rt: HostRuntime) -> Result<(), Fail> {
     let alloc = rt.alloc();
@@ -359,17 +325,9 @@ fn a_commit_is_copied_in_five_turns(rt: HostRuntime) -> Result<(), Fail> {
         return Err("a seat")?;
     };
     let (states, epoch, out, told) = committed_beside(&rt, alloc, &shared, seat, other)?;
-    let more = CopyState::More;
-    assert_eq!(rt; states, [more, more, more, more, CopyState::Whole]);
-    assert_eq!(rt; epoch, 0);
-    assert_eq!(rt; out, [0x7A; 512]);
-    let status = Status {
-        sectors: MANY,
-        layers: 1,
-        pending: None,
-    };
-    // a write, the freeze, a write beside each copy, the seal and the plan
-    assert_eq!(rt; told, (status, 9));
+    holds(&rt, are_copied(states), "five pieces");
+    holds(&rt, epoch == 0 && out == [0x7A; 512], "the sector");
+    holds(&rt, is_told(told), "the status");
     committed_law();
     Ok(())
 }
@@ -453,8 +411,8 @@ fn what_threads_did_at_once_is_done(rt: HostRuntime) -> Result<(), Fail> {
     let mut run = changed_in_turn(alloc, MemDisk::new(alloc))?;
     let (bytes, steps) = bytes_and_steps(alloc, &mut closed)?;
     let (same, others) = bytes_and_steps(alloc, &mut run)?;
-    assert_eq!(rt; bytes, same);
-    assert_eq!(rt; (steps, others), (16, 16));
+    holds(&rt, bytes == same, "the same bytes");
+    holds(&rt, steps == 16 && others == 16, "16 steps");
     acknowledged_law();
     one_thread_law(&closed, &run);
     Ok(())

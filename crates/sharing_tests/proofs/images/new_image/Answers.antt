@@ -2,7 +2,7 @@ use Rattle.std.proofs.Common.{ℕ, [], sym, subst}
 use Rattle.image_core.specs.View.{AreLayersOf}
 use Rattle.image_core.specs.Creating.{fresh_at}
 use Rattle.image_core.specs.Seen.{seen, faults_in, StandsFor}
-use Rattle.sharing_tests.proofs.image_read_tests.new_image.Goals as goal
+use Rattle.sharing_tests.proofs.images.new_image.Goals as goal
 
 pub returns-in-Ok-clause-stands : goal.returns-in-Ok-clause-stands
 returns-in-Ok-clause-stands g c =
