@@ -28,7 +28,7 @@ module _ (tells : Bool) (lock : Lock Base) (shelf : ℕ) (old new : Place Act) w
   counted p = fault_count (calls_by p.number p.seen) + shelf
 
   -- what it noted is what its count rose by
-  counts : (acts : List Act) → Notes (P old) (P new) acts → (P new).faults ≡ (P old).faults + fault_count (map (entry old.number) acts)
+  pub counts : (acts : List Act) → Notes (P old) (P new) acts → (P new).faults ≡ (P old).faults + fault_count (map (entry old.number) acts)
   counts acts n =
       let own : calls_by old.number (old.seen ++ n.more) ≡ calls_by old.number old.seen ++ map (entry old.number) acts =
       calls_by-append old.number old.seen n.more ∙ ap (λ (l : History). calls_by old.number old.seen ++ l) n.own in

@@ -8,7 +8,7 @@ use Rattle.flat_image.specs.declared.act.Asked.TheVariants.{Nothing, Uuid}
 use Rattle.flat_image.specs.declared.base.Base.{Base}
 use Rattle.flat_image.specs.Base.{pending_of}
 use Rattle.flat_image.specs.Entries.{entry}
-use Rattle.flat_image.specs.History.{History, now, committed, Allowed}
+use Rattle.flat_image.specs.History.{History, now, committed, Allowed, Proper}
 use Rattle.flat_image.specs.LayerReading.{uuid_in}
 use Rattle.flat_image.specs.Ports.{PortState}
 use Rattle.flat_image.proofs.HistoryLaws.{now-lowers}
@@ -92,12 +92,13 @@ module _ (tells : Bool) (lock : Lock Base) (shelf : ℕ) (old mid : Place Act) (
   pub copied_turn : (new : Place Act) (uuid : List ℕ) → Given new → Room → pending_of here.frozen ≡ Some uuid → Copies (P old) (P new) uuid
   copied_turn new uuid is room so = (none_turn new is room, here_turn new (λ (b : Base). Allowed b (Seal uuid)) is so)
 
-  pub other_turn : (new : Place Act) (uuid : List ℕ) (other : Option (List ℕ)) → Given new → Room → pending_of here.frozen ≡ other → other ≢ Some uuid
+  pub other_turn : (new : Place Act) (uuid : List ℕ) (other : Option (List ℕ)) → Given new → Room → pending_of here.frozen ≡ other → other ≢ Some uuid → Proper lock.base mid.seen
       → CopyFails (P old) (P new) uuid (copy.NotPending other) × SealFails (P old) (P new) uuid (seal.NotPending other)
-  other_turn new uuid other is room so not_it =
+  other_turn new uuid other is room so not_it proper =
       let none = none_turn new is room in
       let there = here_turn new (λ (b : Base). pending_of b.frozen ≡ other) is so in
-      ((none, there, not_it), (none, there, not_it))
+      let kept = subst (λ (s : Place Act). Proper lock.base s.seen) (sym is) proper in
+      ((none, there, not_it, kept), (none, there, not_it, kept))
 
   pub whole_turn : (new : Place Act) (uuid : List ℕ) (done total : ℕ) → Given new → Room → pending_of here.frozen ≡ Some uuid → done < total
       → SealFails (P old) (P new) uuid (seal.NotWhole done total)

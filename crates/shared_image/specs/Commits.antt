@@ -7,7 +7,7 @@ use Rattle.flat_image.specs.declared.base.Base.{Base}
 use Rattle.flat_image.specs.declared.port_fault.PortFault.{PortFault}
 use Rattle.flat_image.specs.declared.port_fault.PortFault.TheVariants as port
 use Rattle.flat_image.specs.Entries.{entry}
-use Rattle.flat_image.specs.History.{History, now, committed, pending, Allowed}
+use Rattle.flat_image.specs.History.{History, now, committed, pending, Allowed, Proper}
 use Rattle.flat_image.specs.LayerReading.{uuid_in}
 use Rattle.flat_image.specs.Ports.{PortState, IsWorn, Notes}
 use Rattle.shared_image.specs.declared.faults.SharedFreezeFault.{SharedFreezeFault}
@@ -55,10 +55,11 @@ FreezeFails old new uuid freeze.Failed = (old.faults < new.faults) × NotesAllow
 abbrev pub Copies : PortState → PortState → List ℕ → Type 0
 Copies old new uuid = NotesNone old new × Allowed (made_in new) (Seal uuid)
 
--- a copy that is refused
+-- A copy that is refused. Where another commit is in progress or none, all that was seen is a proper history, so that a commit
+-- that was in progress before was sealed since.
 abbrev pub CopyFails : PortState → PortState → List ℕ → SharedCopyFault → Type 0
 CopyFails old new uuid copy.Worn = IsWorn new × Notes old new []
-CopyFails old new uuid (copy.NotPending other) = NotesNone old new × (pending_in new ≡ other) × (other ≢ Some uuid)
+CopyFails old new uuid (copy.NotPending other) = NotesNone old new × (pending_in new ≡ other) × (other ≢ Some uuid) × Proper new.base new.seen
 CopyFails old new uuid copy.Failed = (old.faults < new.faults) × NotesAllowed old new (Fault Nothing) (Seal uuid)
 
 -- a seal that was made, which answers the number of layers committed before it
@@ -69,7 +70,7 @@ pub record Seals (old new : PortState) (uuid : List ℕ) (epoch : ℕ) : Type 0 
 -- a seal that is refused
 abbrev pub SealFails : PortState → PortState → List ℕ → SharedSealFault → Type 0
 SealFails old new uuid seal.Worn = IsWorn new × Notes old new []
-SealFails old new uuid (seal.NotPending other) = NotesNone old new × (pending_in new ≡ other) × (other ≢ Some uuid)
+SealFails old new uuid (seal.NotPending other) = NotesNone old new × (pending_in new ≡ other) × (other ≢ Some uuid) × Proper new.base new.seen
 SealFails old new uuid (seal.NotWhole done total) = NotesNone old new × Allowed (made_in new) (Seal uuid) × (done < total)
 SealFails old new uuid seal.Failed = (old.faults < new.faults) × NotesAllowed old new (Fault (Uuid uuid)) (Seal uuid)
 

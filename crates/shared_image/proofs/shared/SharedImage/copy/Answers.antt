@@ -32,7 +32,7 @@ returns-in-Err-NotPending-clause-copy g c tells shelf =
     let s = c.standing_law.ensures c.self.inside.turn.base c.hold.new.seat.seen c.in-Ok.ensures.ok.1 in
     let so = copy-other (now c.self.inside.turn.base c.hold.new.seat.seen) _ c.args.uuid c.in-Err-NotPending.other _ s.view c.in-Err-NotPending.ensures.refused c.in-Err-NotPending.field-0-is in
     rw (← c.self.view_is) (other_turn tells c.self.inside.turn shelf c.args.seat.now c.hold.new.seat c.in-Ok.ensures.later c.give-in-Err-NotPending.new.seat c.args.uuid c.in-Err-NotPending.other
-    c.give-in-Err-NotPending.ensures c.in-Ok.ensures.ok.2 so.0 so.1).0
+    c.give-in-Err-NotPending.ensures c.in-Ok.ensures.ok.2 so.0 so.1 c.in-Ok.ensures.ok.1.proper).0
 
 pub returns-in-Err-Failed-clause-copy : goal.returns-in-Err-Failed-clause-copy
 returns-in-Err-Failed-clause-copy g c tells shelf =

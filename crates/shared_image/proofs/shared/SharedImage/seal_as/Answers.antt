@@ -40,7 +40,7 @@ returns-in-Err-NotPending-clause-seal g c tells shelf =
     let s = c.standing_law.ensures c.self.inside.turn.base c.hold.new.seat.seen c.in-Ok.ensures.ok.1 in
     let so = seal-other (now c.self.inside.turn.base c.hold.new.seat.seen) _ c.args.uuid _ _ c.in-Err-NotPending.other _ s.view c.in-Err-NotPending.ensures.refused c.in-Err-NotPending.field-0-is in
     rw (← c.self.view_is) (other_turn tells c.self.inside.turn shelf c.args.seat.now c.hold.new.seat c.in-Ok.ensures.later c.give.new.seat c.args.uuid c.in-Err-NotPending.other
-    c.give.ensures c.in-Ok.ensures.ok.2 so.0 so.1).1
+    c.give.ensures c.in-Ok.ensures.ok.2 so.0 so.1 c.in-Ok.ensures.ok.1.proper).1
 
 pub returns-in-Err-NotWhole-clause-seal : goal.returns-in-Err-NotWhole-clause-seal
 returns-in-Err-NotWhole-clause-seal g c tells shelf =

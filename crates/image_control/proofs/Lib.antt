@@ -1,0 +1,5 @@
+mod Sealing
+mod Ending
+mod Charged
+mod Warmed
+mod Told
