@@ -11,14 +11,16 @@ use Rattle.flat_image.specs.declared.port_fault.PortFault.{PortFault}
 use Rattle.flat_image.specs.Entries.{entry, calls_by, StartsWith}
 use Rattle.flat_image.specs.History.{History}
 use Rattle.flat_image.specs.Ports.{PortState, Notes, Flushes, FlushFails}
-use Rattle.flat_image.proofs.Entries.{StartsWith-self, StartsWith-trans}
+use Rattle.flat_image.proofs.Entries.{StartsWith-self, StartsWith-trans, calls_by-append}
 use Rattle.turn_lock.specs.Locks.{Place, place, AreSeats, IsHistory}
 use Rattle.nbd_session.specs.declared.served.Served.{Served}
 use Rattle.shared_image.specs.Turns.{home_of}
 use Rattle.lane_serve.specs.declared.lane.LaneEnd.{LaneEnd}
 use Rattle.lane_serve.specs.Listeners.{Listening}
 use Rattle.lane_serve.specs.Lanes.{Ways}
-use Rattle.lane_export.specs.Lanes.{Member, LaneDone, LaneIn, AreFirst, any_failed, end_by, WhyEnded, HasServed, Exports}
+use Rattle.control_session.specs.declared.control_end.ControlEnd.{ControlEnd}
+use Rattle.control_session.specs.Sessions.{Ends}
+use Rattle.lane_export.specs.Lanes.{Member, LaneDone, LaneIn, AreFirst, any_failed, end_by, WhyEnded, HasServed, Exports, Stream, ControlStart, ControlDone, ControlIn, IsLast}
 use Rattle.flat_image.specs.declared.base.Base.{Base}
 use Rattle.image_core.specs.Seen.{Seen}
 use Rattle.lane_export.specs.declared.export_end.ExportEnd.{ExportEnd}
@@ -172,10 +174,44 @@ closed-empty id n (s ∷ seats) history are new h =
           (subst (λ (l : History). calls_by (get_or (s ∷ seats) k s).number history ≡ calls_by (get_or (s ∷ seats) k s).number l) (new k s less) (h.own k s less));
     })
 
-pub exports-served : {P A B : Type 0} (w : Ways A B) (base : Base) (tells : P → Bool) (shelf : P → ℕ) (told : P → Option (Listening A B Served)) (faults : P → ℕ) (old new : List P) (connections : ℕ) (image : Seen) (end : ExportEnd)
-    → HasServed w base tells shelf told faults old new connections image end → Exports w base tells shelf told faults old new connections image end
-exports-served w base tells shelf told faults old new connections image export_end.Flushed h = h
-exports-served w base tells shelf told faults old new connections image export_end.ListenerFailed h = h
-exports-served w base tells shelf told faults old new connections image export_end.FlushFailed h = h
-exports-served w base tells shelf told faults old new connections image export_end.Worn h = h
-exports-served w base tells shelf told faults old new connections image export_end.Memory h = absurd h.why
+-- the control is done, and noted what its last flush did: it is the control of the history
+control-noted : (seats : List (Place Act)) (before final : Place Act) (history : History) (p q : PortState) (acts : List Act) (old : Ends) (stream : Stream) (end : ControlEnd) → IsHistory (seats ++ final ∷ []) history
+    → final.number ≡ length seats → old.port.number ≡ length seats → IsLast acts → Notes p q acts → p.seen ≡ before.seen → p.number ≡ length seats → q.seen ≡ final.seen
+    → ControlDone old stream before end → ControlIn history old stream end
+control-noted seats before final history p q acts old stream end h number old_number what notes ps pn qs done =
+    let m = old.port.number in
+    let grown : final.seen ≡ before.seen ++ notes.more = sym qs ∙ (ap (λ (s : PortState). s.seen) notes.is ∙ ap (λ (l : History). l ++ notes.more) ps) in
+    let mine = control-in seats final history h number in
+    let whole : calls_by m history ≡ calls_by m final.seen = subst (λ (k : ℕ). calls_by k history ≡ calls_by k final.seen) (sym old_number) mine.1 in
+    let own_more : calls_by m notes.more ≡ map (entry m) acts = subst (λ (k : ℕ). calls_by k notes.more ≡ map (entry k) acts) (pn ∙ sym old_number) notes.own in
+    let longer : StartsWith final.seen before.seen = record { rest = notes.more; is = grown } in
+    record {
+      port = done.port;
+      serves = done.serves;
+      begun = StartsWith-trans history final.seen done.port.seen mine.0 (StartsWith-trans final.seen before.seen done.port.seen longer done.seen);
+      last = acts;
+      last_is = what;
+      own = whole ∙ (ap (calls_by m) grown ∙ (calls_by-append m before.seen notes.more ∙ (λ i. done.own i ++ own_more i)));
+    }
+
+pub control-served : {T : Type 0} (last : Result T PortFault) (seats : List (Place Act)) (before final : Place Act) (history : History) (p q : PortState) (old : Ends) (stream : Stream) (end : ControlEnd)
+    → MatchResult last (λ _. Flushes p q) (FlushFails false p q) → IsHistory (seats ++ final ∷ []) history
+    → final.number ≡ length seats → old.port.number ≡ length seats → p.seen ≡ before.seen → p.number ≡ length seats → q.seen ≡ final.seen
+    → ControlDone old stream before end → ControlIn history old stream end
+control-served (Ok x) seats before final history p q old stream end answer h number old_number ps pn qs done =
+    control-noted seats before final history p q (Flush ∷ []) old stream end h number old_number (inl refl) answer.notes ps pn qs done
+control-served (Err fault.Worn) seats before final history p q old stream end answer h number old_number ps pn qs done =
+    control-noted seats before final history p q [] old stream end h number old_number (inr (inr refl)) answer.1 ps pn qs done
+control-served (Err (fault.Full rows sectors)) seats before final history p q old stream end answer h number old_number ps pn qs done = absurd answer
+control-served (Err fault.Memory) seats before final history p q old stream end answer h number old_number ps pn qs done = absurd (let takes : false ≡ true = answer.1 in cc)
+control-served (Err fault.Failed) seats before final history p q old stream end answer h number old_number ps pn qs done =
+    control-noted seats before final history p q (Fault Nothing ∷ []) old stream end h number old_number (inr (inl refl)) answer.1 ps pn qs done
+
+pub exports-served : {P A B : Type 0} (w : Ways A B) (base : Base) (tells : P → Bool) (shelf : P → ℕ) (told : P → Option (Listening A B Served)) (faults : P → ℕ) (old new : List P) (connections : ℕ)
+    (start : ControlStart) (stream : Stream) (ended : Option ControlEnd) (image : Seen) (end : ExportEnd)
+    → HasServed w base tells shelf told faults old new connections start stream ended image end → Exports w base tells shelf told faults old new connections start stream ended image end
+exports-served w base tells shelf told faults old new connections start stream ended image export_end.Flushed h = h
+exports-served w base tells shelf told faults old new connections start stream ended image export_end.ListenerFailed h = h
+exports-served w base tells shelf told faults old new connections start stream ended image export_end.FlushFailed h = h
+exports-served w base tells shelf told faults old new connections start stream ended image export_end.Worn h = h
+exports-served w base tells shelf told faults old new connections start stream ended image export_end.Memory h = absurd h.why

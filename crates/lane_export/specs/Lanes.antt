@@ -1,5 +1,5 @@
 -- What lanes do in threads, and what it comes to.
-use Rattle.flat_image.specs.declared.act.Act.TheVariants.{Fault}
+use Rattle.flat_image.specs.declared.act.Act.TheVariants.{Flush, Fault}
 use Rattle.flat_image.specs.declared.act.Asked.TheVariants.{Nothing}
 use Rattle.flat_image.specs.declared.base.Base.{Base}
 use Rattle.flat_image.specs.declared.port_fault.PortFault.{PortFault}
@@ -7,10 +7,9 @@ use Rattle.flat_image.specs.declared.port_fault.PortFault.TheVariants as fault
 use Rattle.image_core.specs.Seen.{Seen, StandsFor}
 use Rattle.lane_export.specs.declared.export_end.ExportEnd.{ExportEnd}
 use Rattle.lane_export.specs.declared.export_end.ExportEnd.TheVariants as export_end
-use Rattle.std.specs.Prelude.{◌||◌, true, ◌≡◌, ℕ, ◌^◌, ◌<◌, Bool, false, List, [], ◌∷◌, ◌++◌, length, slice_index_or, Option, All, Result, Ok, Err}
+use Rattle.std.specs.Prelude.{◌||◌, true, ◌≡◌, ◌⊎◌, ℕ, ◌^◌, ◌<◌, Bool, false, List, [], ◌∷◌, ◌++◌, length, map, slice_index_or, Option, Some, None, All, Result, Ok, Err}
 use Rattle.atomic_table.specs.Seated.{TableId}
 use Rattle.flat_image.specs.declared.act.Act.{Act}
-use Rattle.flat_image.specs.declared.act.Act.TheVariants.{Flush}
 use Rattle.flat_image.specs.Entries.{entry, calls_by, StartsWith}
 use Rattle.flat_image.specs.History.{History}
 use Rattle.flat_image.specs.Ports.{PortState}
@@ -21,7 +20,12 @@ use Rattle.image_read.specs.Reading.{IsSeatOf}
 use Rattle.lane_serve.specs.declared.lane.LaneEnd.{LaneEnd}
 use Rattle.lane_serve.specs.declared.lane.LaneEnd.TheVariants as end_is
 use Rattle.lane_serve.specs.Listeners.{Listening}
+use Rattle.byte_ports.specs.declared.ports.Source as sources
+use Rattle.byte_ports.specs.declared.ports.Sink as sinks
 use Rattle.lane_serve.specs.Lanes.{Ways, Runs}
+use Rattle.control_session.specs.declared.control_end.ControlEnd.{ControlEnd}
+use Rattle.control_session.specs.Controls.{control}
+use Rattle.control_session.specs.Sessions.{Ends, ends, Serves}
 
 -- a lane at one moment: its port, what its listener tells, and that one's count of faults
 pub record Member (A B : Type 0) : Type 0 where
@@ -78,6 +82,51 @@ pub record LaneIn {A B : Type 0} (w : Ways A B) (history : History) (old : Membe
   pub begun : StartsWith history port.seen
   pub own : calls_by old.port.number history ≡ calls_by old.port.number port.seen
 
+-- ---- the control
+
+-- the control's stream at one moment: what its source has left and what its sink got, where they tell them, and their counts
+-- of faults
+pub record Stream : Type 0 where
+  pub left : Option (List ℕ)
+  pub reads : ℕ
+  pub written : Option (List ℕ)
+  pub writes : ℕ
+
+-- the stream of a source and a sink
+abbrev pub stream_of : {A B : Type 0} → sources.Ghosts A → sinks.Ghosts B → A → B → Stream
+stream_of a b source sink = record { left = a.left source; reads = a.faults source; written = b.written sink; writes = b.faults sink }
+
+-- the control before it did anything: whether its shelf and the disk tell, what that shelf has counted, and its stream
+pub record ControlStart : Type 0 where
+  pub tells : Bool
+  pub shelf : ℕ
+  pub stream : Stream
+
+abbrev pub ends_at : Stream → PortState → Ends
+ends_at stream port = ends stream.left stream.reads stream.written stream.writes port
+
+-- The control is done: its stream was served from this port on, and its seat has seen what that one saw, and noted nothing
+-- else.
+pub record ControlDone (old : Ends) (stream : Stream) (seat : Place Act) (end : ControlEnd) : Type 0 where
+  pub port : PortState
+  pub serves : Serves control old (ends_at stream port) end
+  pub seen : StartsWith seat.seen port.seen
+  pub own : calls_by old.port.number seat.seen ≡ calls_by old.port.number port.seen
+
+-- what the control's last flush noted
+abbrev pub IsLast : List Act → Type 0
+IsLast acts = (acts ≡ Flush ∷ []) ⊎ ((acts ≡ Fault Nothing ∷ []) ⊎ (acts ≡ []))
+
+-- And what it comes to once the lock is closed over this history: its port saw a beginning of it, and all entries of its
+-- number are those of its lines and what the last flush noted.
+pub record ControlIn (history : History) (old : Ends) (stream : Stream) (end : ControlEnd) : Type 0 where
+  pub port : PortState
+  pub serves : Serves control old (ends_at stream port) end
+  pub begun : StartsWith history port.seen
+  pub last : List Act
+  pub last_is : IsLast last
+  pub own : calls_by old.port.number history ≡ calls_by old.port.number port.seen ++ map (entry old.port.number) last
+
 -- how an export ends, by whether a listener has failed and by the last flush
 abbrev pub end_by : {T : Type 0} → Bool → Result T PortFault → ExportEnd
 end_by true last = export_end.ListenerFailed
@@ -94,15 +143,15 @@ EndsWith history number act = (before : History) × (history ≡ before ++ entry
 -- why an export ended so: the control flushed last; a listener failed; the control's last flush failed; or the history is
 -- full. The fault of a listener comes first
 abbrev pub WhyEnded : List LaneEnd → History → ℕ → ExportEnd → Type 0
-WhyEnded ends history control export_end.Flushed = (any_failed ends ≡ false) × EndsWith history control Flush
-WhyEnded ends history control export_end.ListenerFailed = any_failed ends ≡ true
-WhyEnded ends history control export_end.FlushFailed = (any_failed ends ≡ false) × EndsWith history control (Fault Nothing)
-WhyEnded ends history control export_end.Worn = (any_failed ends ≡ false) × (length history ≡ 2 ^ 62)
-WhyEnded ends history control export_end.Memory = ⊥
+WhyEnded ends history number export_end.Flushed = (any_failed ends ≡ false) × EndsWith history number Flush
+WhyEnded ends history number export_end.ListenerFailed = any_failed ends ≡ true
+WhyEnded ends history number export_end.FlushFailed = (any_failed ends ≡ false) × EndsWith history number (Fault Nothing)
+WhyEnded ends history number export_end.Worn = (any_failed ends ≡ false) × (length history ≡ 2 ^ 62)
+WhyEnded ends history number export_end.Memory = ⊥
 
 -- The lanes were served. There is one history, for which the image stands over the base. The lanes' numbers are those of
 -- their places, the control's is their number, and no others have entries.
-pub record HasServed {P A B : Type 0} (w : Ways A B) (base : Base) (tells : P → Bool) (shelf : P → ℕ) (told : P → Option (Listening A B Served)) (faults : P → ℕ) (old new : List P) (connections : ℕ) (image : Seen) (end : ExportEnd) : Type 0 where
+pub record HasServed {P A B : Type 0} (w : Ways A B) (base : Base) (tells : P → Bool) (shelf : P → ℕ) (told : P → Option (Listening A B Served)) (faults : P → ℕ) (old new : List P) (connections : ℕ) (start : ControlStart) (stream : Stream) (control_end : Option ControlEnd) (image : Seen) (end : ExportEnd) : Type 0 where
   pub lock : Lock Base
   pub base_is : lock.base ≡ base
   pub first_is : lock.first ≡ 0
@@ -114,12 +163,22 @@ pub record HasServed {P A B : Type 0} (w : Ways A B) (base : Base) (tells : P �
       (record { port = first_port (tells (slice_index_or old k e)) lock k (shelf (slice_index_or old k e)); told = told (slice_index_or old k e); faults = faults (slice_index_or old k e) })
       (told (slice_index_or new k f)) (faults (slice_index_or new k f)) connections (slice_index_or ends k d)
   pub others : (k : ℕ) → length old < k → calls_by k history ≡ []
+  pub control_ended : ControlEnd
+  pub told_end : control_end ≡ Some control_ended
+  pub control_is : ControlIn history (ends_at start.stream (first_port start.tells lock (length old) start.shelf)) stream control_ended
   pub why : WhyEnded ends history (length old) end
 
--- an export of an image. Where memory was wanting, nothing was served and nothing noted, and all lanes are as they were
-abbrev pub Exports : {P A B : Type 0} → Ways A B → Base → (P → Bool) → (P → ℕ) → (P → Option (Listening A B Served)) → (P → ℕ) → List P → List P → ℕ → Seen → ExportEnd → Type 0
-Exports w base tells shelf told faults old new connections image export_end.Flushed = HasServed w base tells shelf told faults old new connections image export_end.Flushed
-Exports w base tells shelf told faults old new connections image export_end.ListenerFailed = HasServed w base tells shelf told faults old new connections image export_end.ListenerFailed
-Exports w base tells shelf told faults old new connections image export_end.FlushFailed = HasServed w base tells shelf told faults old new connections image export_end.FlushFailed
-Exports w base tells shelf told faults old new connections image export_end.Worn = HasServed w base tells shelf told faults old new connections image export_end.Worn
-Exports w base tells shelf told faults old new connections image export_end.Memory = StandsFor image base [] × (new ≡ old)
+-- an export of an image. Where memory was wanting, nothing was served and nothing noted, and all lanes and the control are as
+-- they were
+abbrev pub Exports : {P A B : Type 0} → Ways A B → Base → (P → Bool) → (P → ℕ) → (P → Option (Listening A B Served)) → (P → ℕ) → List P → List P → ℕ
+    → ControlStart → Stream → Option ControlEnd → Seen → ExportEnd → Type 0
+Exports w base tells shelf told faults old new connections start stream ended image export_end.Flushed =
+    HasServed w base tells shelf told faults old new connections start stream ended image export_end.Flushed
+Exports w base tells shelf told faults old new connections start stream ended image export_end.ListenerFailed =
+    HasServed w base tells shelf told faults old new connections start stream ended image export_end.ListenerFailed
+Exports w base tells shelf told faults old new connections start stream ended image export_end.FlushFailed =
+    HasServed w base tells shelf told faults old new connections start stream ended image export_end.FlushFailed
+Exports w base tells shelf told faults old new connections start stream ended image export_end.Worn =
+    HasServed w base tells shelf told faults old new connections start stream ended image export_end.Worn
+Exports w base tells shelf told faults old new connections start stream ended image export_end.Memory =
+    StandsFor image base [] × (new ≡ old) × (stream ≡ start.stream) × (ended ≡ None)

@@ -1,17 +1,20 @@
 //! Lanes over one image and one cache.
-ghost use Rattle.std.specs.Prelude.{◌≡◌, ◌≤◌, ◌&&◌, [], is_some, false, length, All};
+ghost use Rattle.std.specs.Prelude.{◌≡◌, ◌+◌, ◌≤◌, ◌&&◌, [], is_some, false, length, All};
 ghost use Rattle.turn_lock.specs.Locks.{AreSeats};
 ghost use Rattle.image_core.specs.Seen.{seen, StandsFor};
 ghost use Rattle.std.specs.Option.{ForSome};
 ghost use Rattle.lane_serve.specs.Listeners.{IsFresh};
 ghost use Rattle.lane_export.specs.Exporting.{HaveSameFiles};
-ghost use Rattle.lane_export.specs.Lanes.{Exports};
+ghost use Rattle.lane_export.specs.Lanes.{Exports, stream_of};
 
-use crate::caching::{cache_all, start_cache, uncached};
+use crate::caching::{cache_all, cache_control, start_cache, uncached, uncached_control};
 use crate::export_end::ExportEnd;
 use crate::lanes::export_image;
+use crate::parts::Control;
 use block_cache::{CacheSeat, SharedCache};
 use block_disk::Disk;
+use byte_ports::{Sink, Source};
+use control_session::ControlEnd;
 use flat_image::{Base, Named};
 use image_core::Image;
 use lane_serve::Listener;
@@ -23,12 +26,14 @@ use std::sync::Wait;
 use std::thread::Threads;
 use turn_lock::Said;
 
-// Serves all lanes of an image that stands for this base, which `N` names.
+// Serves all lanes and the control of an image that stands for this base, which `N` names.
 fn export_named<
     N: Named<Base>,
     D: Disk + Send + Drop,
     S: Shelf + Send + Drop,
     L: Listener<E = Served> + Send + Drop,
+    A: Source + Send + Drop,
+    B: Sink + Send + Drop,
     R: Threads + Wait + Sync,
 >(
     rt: &R,
@@ -38,12 +43,21 @@ fn export_named<
     base: Said<Base>,
     image: Image<D>,
     pairs: Vec<(S, L)>,
-) -> (Image<D>, Vec<(S, L)>, ExportEnd)
+    control: Control<S, A, B>,
+) -> (
+    Image<D>,
+    Vec<(S, L)>,
+    ExportEnd,
+    Control<S, A, B>,
+    Option<ControlEnd>,
+)
     requires named { N.it ≡ base.value }
     requires stands { StandsFor (seen D.Disk image) base.value [] }
     requires few { length pairs.items ≤ 16 }
     requires shelves { All (λ pair. (S.count pair.0 ≡ length base.value.lowers)
         × ForSome (S.files pair.0) (λ files. files ≡ base.value.lowers)) pairs.items }
+    requires control_count { S.count control.shelf ≡ length base.value.lowers }
+    requires control_told { ForSome (S.files control.shelf) (λ files. files ≡ base.value.lowers) }
     requires fresh { All (λ pair. IsFresh (L.told pair.1)) pairs.items }
     ensures count { length result.1.items ≡ length pairs.items }
     ensures exports { Exports
@@ -57,17 +71,25 @@ fn export_named<
         })
         base.value (λ pair. D.tells && is_some (S.files pair.0)) (λ pair. S.faults pair.0) (λ pair. L.told pair.1)
         (λ pair. L.faults pair.1)
-        pairs.items result.1.items connections (seen D.Disk result.0) result.2 }
+        pairs.items result.1.items connections
+        (record {
+          tells = D.tells && is_some (S.files control.shelf);
+          shelf = S.faults control.shelf;
+          stream = stream_of A.Source B.Sink control.source control.sink;
+        })
+        (stream_of A.Source B.Sink result.3.source result.3.sink) result.4 (seen D.Disk result.0) result.2 }
 {
     let _ = base;
-    export_image::<N, D, S, L, R>(rt, alloc, export, connections, image, pairs)
+    export_image::<N, D, S, L, A, B, R>(rt, alloc, export, connections, image, pairs, control)
 }
 
-// Serves all lanes of an image, with this cache round their shelves.
+// Serves all lanes and the control of an image, with this cache round their shelves.
 fn export_with<
     D: Disk + Send + Drop,
     S: Shelf + Send + Drop,
     L: Listener<E = Served> + Send + Drop,
+    A: Source + Send + Drop,
+    B: Sink + Send + Drop,
     R: Threads + Wait + Sync,
 >(
     rt: &R,
@@ -79,13 +101,23 @@ fn export_with<
     seats: Vec<CacheSeat>,
     image: Image<D>,
     pairs: Vec<(S, L)>,
-) -> (Image<D>, Vec<(S, L)>, ExportEnd)
+    control: Control<S, A, B>,
+) -> (
+    Image<D>,
+    Vec<(S, L)>,
+    ExportEnd,
+    Control<S, A, B>,
+    Option<ControlEnd>,
+)
     requires stands { StandsFor (seen D.Disk image) base.value [] }
     requires few { length pairs.items ≤ 16 }
-    requires seats { AreSeats cache.now.id (length pairs.items) seats.items }
+    requires seats { AreSeats cache.now.id (length pairs.items + 1) seats.items }
     requires files { All (λ pair. cache.now.base.files ≡ S.files pair.0) pairs.items }
+    requires control_files { cache.now.base.files ≡ S.files control.shelf }
     requires shelves { All (λ pair. (S.count pair.0 ≡ length base.value.lowers)
         × ForSome (S.files pair.0) (λ files. files ≡ base.value.lowers)) pairs.items }
+    requires control_count { S.count control.shelf ≡ length base.value.lowers }
+    requires control_told { ForSome (S.files control.shelf) (λ files. files ≡ base.value.lowers) }
     requires fresh { All (λ pair. IsFresh (L.told pair.1)) pairs.items }
     ensures count { length result.1.items ≡ length pairs.items }
     ensures exports { Exports
@@ -99,19 +131,39 @@ fn export_with<
         })
         base.value (λ pair. D.tells && is_some (S.files pair.0)) (λ pair. S.faults pair.0) (λ pair. L.told pair.1)
         (λ pair. L.faults pair.1)
-        pairs.items result.1.items connections (seen D.Disk result.0) result.2 }
+        pairs.items result.1.items connections
+        (record {
+          tells = D.tells && is_some (S.files control.shelf);
+          shelf = S.faults control.shelf;
+          stream = stream_of A.Source B.Sink control.source control.sink;
+        })
+        (stream_of A.Source B.Sink result.3.source result.3.sink) result.4 (seen D.Disk result.0) result.2 }
 {
     let count = pairs.len();
     let Ok(mut plain) = Vec::with_capacity(alloc, count) else {
-        return (image, pairs, ExportEnd::Memory);
+        return (image, pairs, ExportEnd::Memory, control, None);
     };
     let Ok(mut cached) = Vec::with_capacity(alloc, count) else {
-        return (image, pairs, ExportEnd::Memory);
+        return (image, pairs, ExportEnd::Memory, control, None);
+    };
+    let mut seats = seats;
+    let Some(seat) = seats.pop() else {
+        unreachable!()
+    };
+    let control = match cache_control(rt, alloc, cache, seat, control) {
+        Ok(control) => control,
+        Err(control) => return (image, pairs, ExportEnd::Memory, control, None),
     };
     if !cache_all(rt, alloc, cache, seats, pairs, &mut cached, &mut plain) {
-        return (image, plain, ExportEnd::Memory);
+        return (
+            image,
+            plain,
+            ExportEnd::Memory,
+            uncached_control(control),
+            None,
+        );
     }
-    let (image, cached, end) = export_named::<Brand, _, _, _, _>(
+    let (image, cached, end, control, control_end) = export_named::<Brand, _, _, _, _, _, _>(
         rt,
         alloc,
         export,
@@ -119,18 +171,21 @@ fn export_with<
         base,
         image,
         cached,
+        control,
     );
     let mut cached = cached;
     uncached(&mut cached, &mut plain);
-    (image, plain, end)
+    (image, plain, end, uncached_control(control), control_end)
 }
 
-/// Serves all lanes of an image, with one cache of so many blocks round their shelves. The shelf has the
-/// files of theirs, which are the lower layers of the image.
+/// Serves all lanes of an image and its control, with one cache of so many blocks round their shelves, which
+/// have the same files: the lower layers of the image.
 pub(crate) fn export_cached<
     D: Disk + Send + Drop,
     S: Shelf + Send + Drop,
     L: Listener<E = Served> + Send + Drop,
+    A: Source + Send + Drop,
+    B: Sink + Send + Drop,
     R: Threads + Wait + Sync,
 >(
     rt: &R,
@@ -139,17 +194,23 @@ pub(crate) fn export_cached<
     blocks: u32,
     connections: u64,
     base: Said<Base>,
-    shelf: &S,
     image: Image<D>,
     pairs: Vec<(S, L)>,
-) -> (Image<D>, Vec<(S, L)>, ExportEnd)
+    control: Control<S, A, B>,
+) -> (
+    Image<D>,
+    Vec<(S, L)>,
+    ExportEnd,
+    Control<S, A, B>,
+    Option<ControlEnd>,
+)
     requires blocks { (1 ≤ blocks) × (blocks ≤ 16384) }
     requires stands { StandsFor (seen D.Disk image) base.value [] }
     requires some { 1 ≤ length pairs.items }
     requires few { length pairs.items ≤ 16 }
-    requires count { S.count shelf.now ≡ length base.value.lowers }
-    requires told { ForSome (S.files shelf.now) (λ files. files ≡ base.value.lowers) }
-    requires same { HaveSameFiles S.files S.count shelf.now pairs.items }
+    requires same { HaveSameFiles S.files S.count control.shelf pairs.items }
+    requires control_count { S.count control.shelf ≡ length base.value.lowers }
+    requires control_told { ForSome (S.files control.shelf) (λ files. files ≡ base.value.lowers) }
     requires fresh { All (λ pair. IsFresh (L.told pair.1)) pairs.items }
     ensures count { length result.1.items ≡ length pairs.items }
     ensures exports { Exports
@@ -163,10 +224,16 @@ pub(crate) fn export_cached<
         })
         base.value (λ pair. D.tells && is_some (S.files pair.0)) (λ pair. S.faults pair.0) (λ pair. L.told pair.1)
         (λ pair. L.faults pair.1)
-        pairs.items result.1.items connections (seen D.Disk result.0) result.2 }
+        pairs.items result.1.items connections
+        (record {
+          tells = D.tells && is_some (S.files control.shelf);
+          shelf = S.faults control.shelf;
+          stream = stream_of A.Source B.Sink control.source control.sink;
+        })
+        (stream_of A.Source B.Sink result.3.source result.3.sink) result.4 (seen D.Disk result.0) result.2 }
 {
     let count = pairs.len();
-    match start_cache::<Brand, S>(alloc, blocks, count as u32, shelf) {
+    match start_cache::<Brand, S>(alloc, blocks, count as u32 + 1, &control.shelf) {
         Ok((cache, seats)) => export_with(
             rt,
             alloc,
@@ -177,7 +244,8 @@ pub(crate) fn export_cached<
             seats,
             image,
             pairs,
+            control,
         ),
-        Err(_) => (image, pairs, ExportEnd::Memory),
+        Err(_) => (image, pairs, ExportEnd::Memory, control, None),
     }
 }

@@ -1,9 +1,12 @@
 //! Shelves of lanes with one cache round them.
-ghost use Rattle.std.specs.Prelude.{◌≡◌, ◌+◌, ◌<◌, ◌≤◌, [], ◌++◌, length, map, vec_capacity, All, IfOk, MatchBool};
+ghost use Rattle.std.specs.Prelude.{◌≡◌, ◌+◌, ◌<◌, ◌≤◌, [], ◌++◌, length, map, vec_capacity, All, IfOk, MatchBool, IfErr};
 ghost use Rattle.turn_lock.specs.Locks.{AreSeats};
+ghost use Rattle.block_cache.specs.CacheTurns.{IsIdleSeat};
 ghost use Rattle.lane_export.specs.Caching.{bare};
 
+use crate::parts::Control;
 use block_cache::{Cache, CacheBase, CacheSeat, SharedCache};
+use byte_ports::{Sink, Source};
 use flat_image::Named;
 use layer_shelf::Shelf;
 use range_shelf::CachedShelf;
@@ -97,5 +100,58 @@ pub(crate) fn cache_all<'a, S: Shelf + Drop, L: Drop, R: Wait>(
             plain.push_reserved((shelf, listener));
             false
         }
+    }
+}
+
+/// Puts the cache round the control's shelf. Without memory the control comes back.
+pub(crate) fn cache_control<'a, S: Shelf + Drop, A: Source, B: Sink, R: Wait>(
+    rt: &'a R,
+    alloc: Global,
+    cache: &'a SharedCache,
+    seat: CacheSeat,
+    control: Control<S, A, B>,
+) -> Result<Control<CachedShelf<'a, S, R>, A, B>, Control<S, A, B>>
+    requires seat { IsIdleSeat cache.now seat }
+    requires files { cache.now.base.files ≡ S.files control.shelf }
+    ensures ok { IfOk result (λ cached. (cached.shelf.shelf ≡ control.shelf) × (cached.source ≡ control.source)
+        × (cached.sink ≡ control.sink)) }
+    ensures err { IfErr result (λ back. back ≡ control) }
+{
+    let Control {
+        shelf,
+        source,
+        sink,
+    } = control;
+    match CachedShelf::new(rt, alloc, shelf, cache, seat) {
+        Ok(shelf) => Ok(Control {
+            shelf,
+            source,
+            sink,
+        }),
+        Err((shelf, _, _)) => Err(Control {
+            shelf,
+            source,
+            sink,
+        }),
+    }
+}
+
+/// Takes the cache away from the control's shelf.
+pub(crate) fn uncached_control<'a, S: Shelf + Drop, A: Source, B: Sink, R: Wait>(
+    control: Control<CachedShelf<'a, S, R>, A, B>,
+) -> Control<S, A, B>
+    ensures shelf { result.shelf ≡ control.entry.shelf.shelf }
+    ensures stream { (result.source ≡ control.entry.source) × (result.sink ≡ control.entry.sink) }
+{
+    let Control {
+        shelf,
+        source,
+        sink,
+    } = control;
+    let (shelf, _seat) = shelf.into_parts();
+    Control {
+        shelf,
+        source,
+        sink,
     }
 }

@@ -3,13 +3,16 @@ ghost use Rattle.std.specs.Prelude.{◌≡◌, ◌⊎◌, false, map, string_byt
 ghost use Rattle.layer_commands.specs.declared.refusal.Refusal.TheVariants as refused;
 ghost use Rattle.tool_setup.specs.Words.{command_of};
 ghost use Rattle.lane_serve.specs.Listeners.{IsFresh};
+ghost use Rattle.lane_export.specs.Lanes.{stream_of};
 ghost use Rattle.lane_export.specs.Exporting.{HaveSameFiles, HasExported, RunsWords, connections_if};
 ghost use Rattle.lane_export.specs.declared.parts.Parts.{Parts};
 
 use crate::harbour::Harbour;
 use crate::opening::export_disk;
-use crate::parts::{LaneList, Parts, Settings};
+use crate::parts::{Control, LaneList, Parts, Settings};
 use block_disk::Disk;
+use byte_ports::{Sink, Source};
+use control_session::ControlEnd;
 use lane_serve::Listener;
 use layer_commands::Refusal;
 use layer_shelf::Shelf;
@@ -40,13 +43,13 @@ fn read_connections(alloc: Global, words: &WordList) -> Result<u64, Refusal>
     }
 }
 
-// Serves the image of these parts, and answers the status.
+// Serves the image of these parts, and answers the status, and how the control ended where it was served.
 fn export_parts<
     D: Disk + Send + Drop,
     S: Shelf + Send + Drop,
     L: Listener<E = Served> + Send + Drop,
-    A,
-    B,
+    A: Source + Send + Drop,
+    B: Sink + Send + Drop,
     R: Threads + Wait + Sync,
 >(
     rt: &R,
@@ -55,11 +58,9 @@ fn export_parts<
     settings: Settings,
     connections: u64,
     parts: Parts<D, S, L, A, B>,
-) -> (Parts<D, S, L, A, B>, u8)
+) -> (Parts<D, S, L, A, B>, u8, Option<ControlEnd>)
     requires same { HaveSameFiles S.files S.count parts.control_shelf parts.lanes }
     requires fresh { All (λ pair. IsFresh (L.told pair.1)) parts.lanes }
-    ensures control { (result.0.control_source ≡ parts.control_source)
-        × (result.0.control_sink ≡ parts.control_sink) }
     ensures exports { HasExported
         (record {
           left = L.A.left;
@@ -70,7 +71,9 @@ fn export_parts<
           export = export.entry.now;
         })
         D.Disk S.Shelf L.told L.faults parts.disk result.0.disk parts.control_shelf result.0.control_shelf
-        parts.lanes result.0.lanes connections result.1 }
+        parts.lanes result.0.lanes connections
+        (stream_of A.Source B.Sink parts.control_source parts.control_sink)
+        (stream_of A.Source B.Sink result.0.control_source result.0.control_sink) result.2 result.1 }
 {
     let Parts {
         disk,
@@ -79,29 +82,39 @@ fn export_parts<
         control_source,
         control_sink,
     } = parts;
-    let (disk, control_shelf, lanes, code) = export_disk(
+    let control = Control {
+        shelf: control_shelf,
+        source: control_source,
+        sink: control_sink,
+    };
+    let (disk, lanes, control, code, end) = export_disk(
         rt,
         alloc,
         export,
         settings,
         connections,
         disk,
-        control_shelf,
         lanes.into_vec(),
+        control,
     );
+    let Control {
+        shelf,
+        source,
+        sink,
+    } = control;
     let parts = Parts {
         disk,
         lanes: LaneList::from_vec(lanes),
-        control_shelf,
-        control_source,
-        control_sink,
+        control_shelf: shelf,
+        control_source: source,
+        control_sink: sink,
     };
-    (parts, code)
+    (parts, code, end)
 }
 
 /// Does `export`: opens the image on the harbour's disk over the layers of the control's shelf, serves
-/// its lanes with one cache round their shelves, makes a last flush, and gives the parts back. The
-/// control's stream is not served.
+/// its lanes and the control's stream with one cache round their shelves, makes a last flush, and gives the
+/// parts back, with how the control ended where it was served.
 pub fn run_export<W: Harbour, R: Threads + Wait + Sync>(
     rt: &R,
     alloc: Global,
@@ -115,10 +128,7 @@ pub fn run_export<W: Harbour, R: Threads + Wait + Sync>(
     ensures home { IsSome (W.home harbour.new) }
     ensures kept { (W.set_to harbour.new ≡ W.set_to harbour.old) × (W.exported harbour.new ≡ W.exported harbour.old) }
     ensures runs { RunsWords (connections_if (command_of (map string_bytes words.now))) (harbour.new ≡ harbour.old)
-        (λ connections. (W.end harbour.new ≡ None) × IfSome (W.home harbour.old) (λ before.
-        IfSome (W.home harbour.new) (λ after.
-        (after.control_source ≡ before.control_source) × (after.control_sink ≡ before.control_sink)
-        × HasExported
+        (λ connections. IfSome (W.home harbour.old) (λ before. IfSome (W.home harbour.new) (λ after. HasExported
         (record {
           left = W.L.A.left;
           reads = W.L.A.faults;
@@ -128,7 +138,10 @@ pub fn run_export<W: Harbour, R: Threads + Wait + Sync>(
           export = W.exported harbour.old;
         })
         W.D.Disk W.S.Shelf W.L.told W.L.faults before.disk after.disk before.control_shelf
-        after.control_shelf before.lanes after.lanes connections result.code)))
+        after.control_shelf before.lanes after.lanes connections
+        (stream_of W.A.Source W.B.Sink before.control_source before.control_sink)
+        (stream_of W.A.Source W.B.Sink after.control_source after.control_sink)
+        (W.end harbour.new) result.code)))
         result.code }
 {
     let connections = match read_connections(alloc, words) {
@@ -141,7 +154,14 @@ pub fn run_export<W: Harbour, R: Threads + Wait + Sync>(
     };
     let settings = harbour.settings();
     let parts = harbour.take();
-    let (parts, code) = export_parts(rt, alloc, harbour.export(), settings, connections, parts);
-    harbour.give_back(parts, None);
+    let (parts, code, end) = export_parts(
+        rt,
+        alloc,
+        harbour.export(),
+        settings,
+        connections,
+        parts,
+    );
+    harbour.give_back(parts, end);
     Status { code }
 }

@@ -1,5 +1,5 @@
-//! The export of an image: lanes in threads, each with a listener, a shelf and a seat of its own, over
-//! one image and one cache.
+//! The export of an image: lanes and a control in threads, each with a shelf and a seat of its own, over one
+//! image and one cache.
 #![tactic(auto)]
 
 mod cached_lanes;
@@ -15,4 +15,4 @@ pub use export_end::ExportEnd;
 pub use exporting::{Status, run_export};
 pub use harbour::Harbour;
 pub use lanes::export_image;
-pub use parts::{LaneList, Parts, Settings};
+pub use parts::{Control, LaneList, Parts, Settings};

@@ -1,16 +1,18 @@
 //! The image on a disk, opened and served.
 ghost use Rattle.std.specs.Prelude.{◌≡◌, ◌≤◌, false, length, All};
-ghost use Rattle.layer_shelf.specs.Shelves.{SameFiles};
 ghost use Rattle.image_core.specs.Seen.{seen, disk_of};
 ghost use Rattle.image_commands.specs.Images.{disk_port};
 ghost use Rattle.image_commands.specs.ImageSteps.{IsOpened};
 ghost use Rattle.lane_serve.specs.Listeners.{IsFresh};
+ghost use Rattle.lane_export.specs.Lanes.{stream_of};
 ghost use Rattle.lane_export.specs.Exporting.{HaveSameFiles, HasExported, IsBaseOf, end_code};
 
 use crate::cached_lanes::export_cached;
 use crate::export_end::ExportEnd;
-use crate::parts::Settings;
+use crate::parts::{Control, Settings};
 use block_disk::Disk;
+use byte_ports::{Sink, Source};
+use control_session::ControlEnd;
 use flat_image::Base;
 use image_commands::open_image;
 use image_core::Image;
@@ -63,12 +65,14 @@ fn code_of(end: ExportEnd) -> u8
     }
 }
 
-/// Opens the image on the disk over the shelf's layers, serves its lanes, and answers the status. Disk,
-/// shelf and lanes come back.
+/// Opens the image on the disk over the layers of the control's shelf, serves its lanes and its control, and
+/// answers the status. Disk, lanes and control come back, and how the control ended where it was served.
 pub(crate) fn export_disk<
     D: Disk + Send + Drop,
     S: Shelf + Send + Drop,
     L: Listener<E = Served> + Send + Drop,
+    A: Source + Send + Drop,
+    B: Sink + Send + Drop,
     R: Threads + Wait + Sync,
 >(
     rt: &R,
@@ -77,15 +81,14 @@ pub(crate) fn export_disk<
     settings: Settings,
     connections: u64,
     disk: D,
-    shelf: S,
     pairs: Vec<(S, L)>,
-) -> (D, S, Vec<(S, L)>, u8)
+    control: Control<S, A, B>,
+) -> (D, Vec<(S, L)>, Control<S, A, B>, u8, Option<ControlEnd>)
     requires some { 1 ≤ length pairs.items }
     requires few { length pairs.items ≤ 16 }
-    requires same { HaveSameFiles S.files S.count shelf pairs.items }
+    requires same { HaveSameFiles S.files S.count control.shelf pairs.items }
     requires fresh { All (λ pair. IsFresh (L.told pair.1)) pairs.items }
-    ensures count { length result.2.items ≡ length pairs.items }
-    ensures same { SameFiles S.files S.count shelf result.1 }
+    ensures count { length result.1.items ≡ length pairs.items }
     ensures exports { HasExported
         (record {
           left = L.A.left;
@@ -95,26 +98,45 @@ pub(crate) fn export_disk<
           takes = false;
           export = export.entry.now;
         })
-        D.Disk S.Shelf L.told L.faults disk result.0 shelf result.1 pairs.items result.2.items connections result.3 }
+        D.Disk S.Shelf L.told L.faults disk result.0 control.shelf result.2.shelf pairs.items result.1.items
+        connections (stream_of A.Source B.Sink control.source control.sink)
+        (stream_of A.Source B.Sink result.2.source result.2.sink) result.4 result.3 }
 {
+    let Control {
+        shelf,
+        source,
+        sink,
+    } = control;
     let mut shelf = shelf;
     let image = match open_image(alloc, &mut shelf, disk) {
         Ok(image) => image,
-        Err((disk, refusal)) => return (disk, shelf, pairs, refusal.code()),
+        Err((disk, refusal)) => {
+            let control = Control {
+                shelf,
+                source,
+                sink,
+            };
+            return (disk, pairs, control, refusal.code(), None);
+        }
     };
     let mounted = Mounted { image, shelf };
     let base = base_of(&mounted);
     let Mounted { image, shelf } = mounted;
-    let (image, pairs, end) = export_cached(
+    let control = Control {
+        shelf,
+        source,
+        sink,
+    };
+    let (image, pairs, end, control, control_end) = export_cached(
         rt,
         alloc,
         export,
         settings.cache_blocks,
         connections,
         base,
-        &shelf,
         image,
         pairs,
+        control,
     );
-    (image.into_disk(), shelf, pairs, code_of(end))
+    (image.into_disk(), pairs, control, code_of(end), control_end)
 }

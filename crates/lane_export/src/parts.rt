@@ -13,6 +13,14 @@ pub struct Settings {
     pub ghost blocks: { (1 ≤ cache_blocks) × (cache_blocks ≤ 16384) },
 }
 
+/// What the control of an export has: a shelf, and the stream of its lines.
+#[derive(Drop)]
+pub struct Control<S, A, B> {
+    pub shelf: S,
+    pub source: A,
+    pub sink: B,
+}
+
 /// The parts of an export: a disk, a shelf and a listener for each lane, and the control's own shelf and
 /// stream.
 #[derive(Drop)]

@@ -6,4 +6,4 @@ export_with-requires-clause-files g c κs within = λ k d lt. c.in-Ok.ensures.fi
 
 pub export_with-requires-clause-shelves : goal.export_with-requires-clause-shelves
 export_with-requires-clause-shelves g c κs within = λ k d lt.
-    let s = c.requires.same k d lt in (s.0 ∙ c.requires.count, (λ x is. c.requires.told x (sym s.1 ∙ is)))
+    let s = c.requires.same k d lt in (s.0 ∙ c.requires.control_count, (λ x is. c.requires.control_told x (sym s.1 ∙ is)))
