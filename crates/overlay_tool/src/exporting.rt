@@ -1,17 +1,21 @@
 //! Exports the image of a configuration.
-ghost use Rattle.std.specs.Prelude.{◌≡◌, ◌≤◌, None, length, All, IfOk};
+ghost use Rattle.std.specs.Prelude.{◌≡◌, ◌≤◌, [], None, Some, length, All, IfOk};
+ghost use Rattle.lane_serve.specs.Listeners.{IsFresh};
 ghost use Rattle.range_shelf.specs.RangeShelves.{files_told};
 ghost use Rattle.lane_export.specs.Exporting.{HaveSameFiles};
 
-use crate::harbour::{Lane, TcpHarbour, lane_of, listen};
+use crate::harbour::{Lane, PartsHarbour, lane_of, listen};
 use crate::setup::{SetupFault, copy, copy_all, targets_of};
-use block_disk::FolderDisk;
+use block_disk::{FolderDisk, MemDisk};
+use byte_ports::{MemSink, MemSource};
 use http_range::{HostText, TcpLink};
 use lane_export::{LaneList, Parts, Settings, run_export};
-use layer_shelf::{FolderShelf, Shelf};
-use nbd_session::{Export, NameBytes};
+use lane_serve::{Listener, MemListener};
+use layer_shelf::{FolderShelf, MemShelf, Shelf};
+use nbd_session::{Export, NameBytes, Served};
 use range_shelf::RangeShelf;
-use sector_extent::Bytes;
+use sector_extent::{Bytes, CallList, FileTexts};
+use std::alloc::Global;
 use std::net::TcpListener;
 use std::sync::Wait;
 use std::thread::Threads;
@@ -131,9 +135,65 @@ fn export_over<'a, S: Shelf + Send + Drop, R: Threads + Wait + Sync>(
         control_source,
         control_sink,
     };
-    let mut harbour = TcpHarbour {
+    let mut harbour = PartsHarbour {
         settings: Settings { cache_blocks },
         export: Export { name, read_only },
+        parts: Some(parts),
+        end: None,
+    };
+    Ok(run_export(threads, alloc, words, &mut harbour).code)
+}
+
+// No bytes, or no calls.
+fn no_files(alloc: Global) -> FileTexts
+    ensures { result ≡ [] }
+{
+    FileTexts::from_vec(Vec::new(alloc))
+}
+
+fn no_calls(alloc: Global) -> CallList
+    ensures { result ≡ [] }
+{
+    CallList::from_vec(Vec::new(alloc))
+}
+
+// One lane without layers, to which nobody connects.
+fn idle_lanes(alloc: Global) -> Result<Vec<(MemShelf, MemListener<Served>)>, SetupFault>
+    ensures one { IfOk result (λ lanes. length lanes.items ≡ 1) }
+    ensures same { IfOk result (λ lanes. All (λ pair. (⟦<MemShelf as Shelf>⟧.count pair.0 ≡ 0)
+        × (⟦<MemShelf as Shelf>⟧.files pair.0 ≡ Some [])) lanes.items) }
+    ensures fresh { IfOk result (λ lanes. All (λ pair.
+        IsFresh (⟦<MemListener<Served> as Listener>⟧.told pair.1)) lanes.items) }
+{
+    let shelf = MemShelf::new(no_files(alloc), no_calls(alloc));
+    let listener = MemListener::new(alloc, no_files(alloc), no_calls(alloc));
+    let mut lanes = Vec::new(alloc);
+    lanes.push((shelf, listener))?;
+    Ok(lanes)
+}
+
+/// Serves an empty disk in memory to nobody, with an empty control, and answers the status.
+pub fn export_empty<R: Threads + Wait + Sync>(
+    alloc: Global,
+    threads: &R,
+    words: &WordList,
+) -> Result<u8, SetupFault> {
+    let parts = Parts {
+        disk: MemDisk::new(alloc),
+        lanes: LaneList::from_vec(idle_lanes(alloc)?),
+        control_shelf: MemShelf::new(no_files(alloc), no_calls(alloc)),
+        control_source: MemSource::new(Bytes::from_vec(Vec::new(alloc)), no_calls(alloc)),
+        control_sink: MemSink::new(alloc, no_calls(alloc)),
+    };
+    let Some(name) = NameBytes::from_vec(Vec::new(alloc)) else {
+        return Err(SetupFault::Config);
+    };
+    let mut harbour = PartsHarbour {
+        settings: Settings { cache_blocks: 1 },
+        export: Export {
+            name,
+            read_only: false,
+        },
         parts: Some(parts),
         end: None,
     };

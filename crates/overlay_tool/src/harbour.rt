@@ -1,8 +1,9 @@
-//! What an export takes, over a folder and sockets.
+//! What hands out the parts of an export, and its lanes over sockets.
 ghost use Rattle.std.specs.Prelude.{◌≡◌, None, Some, IfOk};
 
 use crate::setup::SetupFault;
-use block_disk::FolderDisk;
+use block_disk::Disk;
+use byte_ports::{Sink, Source};
 use control_session::ControlEnd;
 use lane_export::{Harbour, Parts, Settings};
 use lane_serve::Listener;
@@ -11,39 +12,36 @@ use nbd_session::{Export, Served};
 use sector_extent::Bytes;
 use std::net::TcpListener;
 use std::str;
-use tcp_ports::{ControlSink, ControlSource, TcpLane};
+use tcp_ports::TcpLane;
 
 /// A lane over sockets.
 pub type Lane<'a> = TcpLane<'a, HostRuntime, Served>;
 
-/// The parts of an export over a folder, sockets and these shelves.
-pub type TcpParts<'a, S> = Parts<
-    FolderDisk<HostRuntime>,
-    S,
-    Lane<'a>,
-    ControlSource<'a, HostRuntime>,
-    ControlSink,
->;
-
 /// Hands out the parts of one export.
 #[derive(Drop)]
-pub struct TcpHarbour<'a, S> {
+pub struct PartsHarbour<D, S, L, A, B> {
     pub settings: Settings,
     pub export: Export,
-    pub parts: Option<TcpParts<'a, S>>,
+    pub parts: Option<Parts<D, S, L, A, B>>,
     pub end: Option<ControlEnd>,
 }
 
-impl<'a, S: Shelf + Send + Drop> Harbour for TcpHarbour<'a, S> {
-    type D = FolderDisk<HostRuntime>;
+impl<
+    D: Disk + Send + Drop,
+    S: Shelf + Send + Drop,
+    L: Listener<E = Served> + Send + Drop,
+    A: Source + Send + Drop,
+    B: Sink + Send + Drop,
+> Harbour for PartsHarbour<D, S, L, A, B> {
+    type D = D;
 
     type S = S;
 
-    type L = Lane<'a>;
+    type L = L;
 
-    type A = ControlSource<'a, HostRuntime>;
+    type A = A;
 
-    type B = ControlSink;
+    type B = B;
 
     ghost set_to = { λ h. h.settings };
 
@@ -61,15 +59,15 @@ impl<'a, S: Shelf + Send + Drop> Harbour for TcpHarbour<'a, S> {
         &self.export
     }
 
-    fn take(&mut self) -> TcpParts<'a, S> {
+    fn take(&mut self) -> Parts<D, S, L, A, B> {
         match self.parts.take() {
             Some(parts) => parts,
             None => unreachable!(),
         }
     }
 
-    fn give_back(&mut self, parts: TcpParts<'a, S>, control: Option<ControlEnd>)
-        ensures home { self.new.parts ≡ Some parts.entry }
+    fn give_back(&mut self, parts: Parts<D, S, L, A, B>, control: Option<ControlEnd>)
+        ensures home { self.new.parts ≡ Some parts }
         ensures same { (self.new.settings ≡ self.old.settings) × (self.new.export ≡ self.old.export) }
         ensures end { self.new.end ≡ control }
     {

@@ -9,7 +9,7 @@ mod harbour;
 mod setup;
 mod words;
 
-use crate::exporting::export_configured;
+use crate::exporting::{export_configured, export_empty};
 use crate::setup::{SetupFault, read_configuration, targets_of};
 use crate::words::{Parts, part_words, words_behind};
 use block_disk::{Disk, FolderDisk, MemDisk};
@@ -75,6 +75,9 @@ fn run_parts<R: Threads + Wait + Sync>(
             }
         }
         None => {
+            if is_export(&words) {
+                return export_empty(rt.alloc(), threads, &words);
+            }
             let files = FileTexts::from_vec(Vec::new(rt.alloc()));
             let mut shelf = MemShelf::new(files, CallList::from_vec(Vec::new(rt.alloc())));
             Ok(run(rt, &words, MemDisk::new(rt.alloc()), &mut shelf))
