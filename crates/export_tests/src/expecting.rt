@@ -1,0 +1,7 @@
+//! What a test expects.
+use std::process::Abort;
+
+/// Ends the test with these words, unless it holds.
+pub fn holds(rt: &impl Abort, is_so: bool, words: &str) {
+    assert!(rt; is_so, "{words}");
+}
