@@ -10,9 +10,11 @@ mod harbour;
 mod lanes;
 mod opening;
 mod parts;
+mod parts_harbour;
 
 pub use export_end::ExportEnd;
 pub use exporting::{Status, run_export};
 pub use harbour::Harbour;
 pub use lanes::export_image;
 pub use parts::{Control, LaneList, Parts, Settings};
+pub use parts_harbour::PartsHarbour;

@@ -4,12 +4,12 @@ ghost use Rattle.lane_serve.specs.Listeners.{IsFresh};
 ghost use Rattle.range_shelf.specs.RangeShelves.{files_told};
 ghost use Rattle.lane_export.specs.Exporting.{HaveSameFiles};
 
-use crate::harbour::{Lane, PartsHarbour, lane_of, listen};
+use crate::lanes::{Lane, lane_of, listen};
 use crate::setup::{SetupFault, copy, copy_all, targets_of};
 use block_disk::{FolderDisk, MemDisk};
 use byte_ports::{MemSink, MemSource};
 use http_range::{HostText, TcpLink};
-use lane_export::{LaneList, Parts, Settings, run_export};
+use lane_export::{LaneList, Parts, PartsHarbour, Settings, run_export};
 use lane_serve::{Listener, MemListener};
 use layer_shelf::{FolderShelf, MemShelf, Shelf};
 use nbd_session::{Export, NameBytes, Served};
@@ -138,7 +138,7 @@ fn export_over<'a, S: Shelf + Send + Drop, R: Threads + Wait + Sync>(
     let mut harbour = PartsHarbour {
         settings: Settings { cache_blocks },
         export: Export { name, read_only },
-        parts: Some(parts),
+        at_home: Some(parts),
         end: None,
     };
     Ok(run_export(threads, alloc, words, &mut harbour).code)
@@ -194,7 +194,7 @@ pub fn export_empty<R: Threads + Wait + Sync>(
             name,
             read_only: false,
         },
-        parts: Some(parts),
+        at_home: Some(parts),
         end: None,
     };
     Ok(run_export(threads, alloc, words, &mut harbour).code)

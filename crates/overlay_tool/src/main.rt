@@ -5,7 +5,7 @@
 #![tactic(auto)]
 
 mod exporting;
-mod harbour;
+mod lanes;
 mod setup;
 mod words;
 
