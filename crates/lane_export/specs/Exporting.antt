@@ -1,9 +1,13 @@
 -- What the export of an image over shelves comes to.
-use Rattle.std.specs.Prelude.{◌≡◌, ℕ, ◌⊎◌, ◌&&◌, is_some, List, [], Option, Some, None, Result, Ok, Err, All}
+use Rattle.std.specs.Prelude.{◌≡◌, ℕ, ◌^◌, ◌≤◌, ◌⊎◌, ◌&&◌, is_some, IsTrue, List, [], length, Option, Some, None, Result, Ok, Err, All}
+use Rattle.std.specs.List.{AllZip}
 use Rattle.block_disk.specs.declared.disk.Disk as disks
 use Rattle.block_disk.specs.Claims.{Quiet}
 use Rattle.layer_shelf.specs.declared.shelves.Shelf as shelves
+use Rattle.byte_ports.specs.declared.ports.Source as sources
+use Rattle.byte_ports.specs.declared.ports.Sink as sinks
 use Rattle.flat_image.specs.declared.base.Base.{Base}
+use Rattle.flat_image.specs.Stacks.{Legal}
 use Rattle.nbd_session.specs.declared.served.Served.{Served}
 use Rattle.image_core.specs.declared.parts.Parts.{Parts}
 use Rattle.image_core.specs.Seen.{Seen, StandsFor, with_disk}
@@ -12,22 +16,34 @@ use Rattle.lane_serve.specs.Lanes.{Ways}
 use Rattle.tool_setup.specs.declared.command.Command.{Command}
 use Rattle.tool_setup.specs.declared.command.Command.TheVariants as command
 use Rattle.tool_setup.specs.declared.command.WordsFault.{WordsFault}
+use Rattle.layer_commands.specs.Prints.{LayerSheet, AreLayers, heads_of}
 use Rattle.image_commands.specs.declared.refusal.ImageRefusal.{ImageRefusal}
 use Rattle.image_commands.specs.ImageTexts.{image_code}
 use Rattle.image_commands.specs.Images.{DiskPort, LiesOver, IsFound, disk_port}
 use Rattle.image_commands.specs.ImageSteps.{OpenCause}
+use Rattle.image_commands.specs.Clear.{IsOpen}
 use Rattle.lane_export.specs.declared.export_end.ExportEnd.{ExportEnd}
 use Rattle.lane_export.specs.declared.export_end.ExportEnd.TheVariants as end
 use Rattle.control_session.specs.declared.control_end.ControlEnd.{ControlEnd}
-use Rattle.lane_export.specs.Lanes.{Stream, Exports}
+use Rattle.lane_export.specs.Lanes.{Stream, Exports, stream_of}
+
+-- all that an export is handed and hands back, at one moment: the disk, the control's shelf, the lanes, and the control's stream
+pub record Moment (D S L : Type 0) : Type 0 where
+  pub disk : D
+  pub shelf : S
+  pub lanes : List (S × L)
+  pub stream : Stream
+
+abbrev pub moment : {D S L A B : Type 0} → sources.Ghosts A → sinks.Ghosts B → D → S → List (S × L) → A → B → Moment D S L
+moment a b disk shelf lanes source sink = record { disk = disk; shelf = shelf; lanes = lanes; stream = stream_of a b source sink }
 
 -- the lanes' shelves have the files of this one, told or not
 abbrev pub HaveSameFiles : {S L : Type 0} → (S → Option (List (List ℕ))) → (S → ℕ) → S → List (S × L) → Type 0
 HaveSameFiles files count shelf lanes = All (λ pair. (count pair.0 ≡ count shelf) × (files pair.0 ≡ files shelf)) lanes
 
--- the image was opened over this base: the disk's files show it, over the shelf's layers
+-- the image was opened over this base: the disk's files show it, over the shelf's layers, and its faults are those counted
 abbrev pub IsBaseOf : Option (List (List ℕ)) → ℕ → DiskPort → Seen → Base → Type 0
-IsBaseOf told count disk image base = LiesOver told count base × IsFound disk base × StandsFor image base []
+IsBaseOf told count disk image base = LiesOver told count base × IsFound disk base × (base.faults ≡ disk.faults) × StandsFor image base []
 
 -- the status by how the export ended
 abbrev pub end_code : ExportEnd → ℕ
@@ -38,34 +54,58 @@ end_code end.Worn = 6
 end_code end.Memory = 5
 
 -- No image was opened. The disk reads as before, the lanes are as they were, and the control's stream was not served.
-pub record HasNoImage {D S L : Type 0} (d : disks.Ghosts D) (s : shelves.Ghosts S) (disk disk_now : D) (shelf shelf_now : S) (lanes lanes_now : List (S × L))
-    (stream stream_now : Stream) (ended : Option ControlEnd) (code : ℕ) : Type 0 where
+pub record HasNoImage {D S L : Type 0} (d : disks.Ghosts D) (s : shelves.Ghosts S) (old new : Moment D S L) (ended : Option ControlEnd) (code : ℕ) : Type 0 where
   pub refusal : ImageRefusal
   pub code_is : code ≡ image_code refusal
-  pub cause : OpenCause (s.files shelf) (s.count shelf) (s.faults shelf) (s.faults shelf_now) (disk_port d disk) (disk_port d disk_now) refusal
-  pub quiet : Quiet (d.state disk) (d.state disk_now)
-  pub same : lanes_now ≡ lanes
-  pub stream_same : stream_now ≡ stream
+  pub cause : OpenCause (s.files old.shelf) (s.count old.shelf) (s.faults old.shelf) (s.faults new.shelf) (disk_port d old.disk) (disk_port d new.disk) refusal
+  pub quiet : Quiet (d.state old.disk) (d.state new.disk)
+  pub same : new.lanes ≡ old.lanes
+  pub stream_same : new.stream ≡ old.stream
   pub unserved : ended ≡ None
 
--- An image was opened, and its lanes and its control were served, or there was no memory for that.
+-- An image was opened, and its lanes and its control were served, or there was no memory for that. Of the base the disk's faults
+-- are those that it had counted before.
 pub record HasRun {D S L A B : Type 0} (w : Ways A B) (d : disks.Ghosts D) (s : shelves.Ghosts S) (told : L → Option (Listening A B Served)) (faults : L → ℕ)
-    (disk disk_now : D) (shelf : S) (lanes lanes_now : List (S × L)) (connections : ℕ) (stream stream_now : Stream) (ended : Option ControlEnd) (code : ℕ) : Type 0 where
+    (old new : Moment D S L) (connections : ℕ) (ended : Option ControlEnd) (code : ℕ) : Type 0 where
   pub base : Base
-  pub lies : LiesOver (s.files shelf) (s.count shelf) base
-  pub found : IsFound (disk_port d disk) base
+  pub lies : LiesOver (s.files old.shelf) (s.count old.shelf) base
+  pub found : IsFound (disk_port d old.disk) base
+  pub faults_are : base.faults ≡ d.faults old.disk
   pub parts : Parts
   pub end : ExportEnd
   pub code_is : code ≡ end_code end
-  pub exports : Exports w base (λ pair. d.tells && is_some (s.files pair.0)) (λ pair. s.faults pair.0) (λ pair. told pair.1) (λ pair. faults pair.1) lanes lanes_now connections
-      (record { tells = d.tells && is_some (s.files shelf); shelf = s.faults shelf; stream = stream }) stream_now ended (with_disk d disk_now parts) end
+  pub many : length new.lanes ≡ length old.lanes
+  pub exports : Exports w base (λ pair. d.tells && is_some (s.files pair.0)) (λ pair. s.faults pair.0) (λ pair. told pair.1) (λ pair. faults pair.1) old.lanes new.lanes connections
+      (record { tells = d.tells && is_some (s.files old.shelf); shelf = s.faults old.shelf; stream = old.stream }) new.stream ended (with_disk d new.disk parts) end
 
 -- an export of the image on a disk over shelves
-abbrev pub HasExported : {D S L A B : Type 0} → Ways A B → disks.Ghosts D → shelves.Ghosts S → (L → Option (Listening A B Served)) → (L → ℕ) → D → D → S → S → List (S × L) → List (S × L)
-    → ℕ → Stream → Stream → Option ControlEnd → ℕ → Type 0
-HasExported w d s told faults disk disk_now shelf shelf_now lanes lanes_now connections stream stream_now ended code =
-    HasNoImage d s disk disk_now shelf shelf_now lanes lanes_now stream stream_now ended code
-    ⊎ HasRun w d s told faults disk disk_now shelf lanes lanes_now connections stream stream_now ended code
+abbrev pub HasExported : {D S L A B : Type 0} → Ways A B → disks.Ghosts D → shelves.Ghosts S → (L → Option (Listening A B Served)) → (L → ℕ) → (old new : Moment D S L)
+    → ℕ → Option ControlEnd → ℕ → Type 0
+HasExported w d s told faults old new connections ended code =
+    HasNoImage d s old new ended code ⊎ HasRun w d s told faults old new connections ended code
+
+-- ---- when nothing stands in the way
+
+-- Nothing stands in the way of an export. Shelf and disk tell; the shelf's files are layers that form a stack, or there are none;
+-- the disk's files show an image over them, with no sequence over 2^61; and the counts of faults did not rise: the disk's,
+-- the shelf's, and those of the listeners.
+pub record IsClear {D S L : Type 0} (d : disks.Ghosts D) (s : shelves.Ghosts S) (faults : L → ℕ) (old new : Moment D S L) (connections : ℕ) : Type 0 where
+  pub steady : d.faults new.disk ≤ d.faults old.disk
+  pub calm : s.faults new.shelf ≤ s.faults old.shelf
+  pub listening : AllZip (λ x y. faults y.1 ≤ faults x.1) old.lanes new.lanes
+  pub tells : IsTrue d.tells
+  pub files : List (List ℕ)
+  pub told : s.files old.shelf ≡ Some files
+  pub layers : List LayerSheet
+  pub are : AreLayers files layers
+  pub legal : 1 ≤ length files → Legal (heads_of layers)
+  pub shown : IsOpen (command.Export connections) files (disk_port d old.disk) []
+
+-- Then the status is 0, or 5 for want of memory, unless the image was served until its history had 2^62 entries.
+unfoldable pub IsComplete : {D S L A B : Type 0} → Ways A B → disks.Ghosts D → shelves.Ghosts S → (L → Option (Listening A B Served)) → (L → ℕ) → (old new : Moment D S L)
+    → ℕ → Option ControlEnd → ℕ → Type 0
+IsComplete w d s told faults old new connections ended code = IsClear d s faults old new connections
+    → (code ≡ 0) ⊎ (code ≡ 5) ⊎ ((run : HasRun w d s told faults old new connections ended code) × (run.parts.steps ≡ 2 ^ 62))
 
 -- the connections of each lane, where the command is an export
 abbrev pub connections_of : Command → Option ℕ

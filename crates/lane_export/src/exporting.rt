@@ -3,8 +3,7 @@ ghost use Rattle.std.specs.Prelude.{◌≡◌, ◌⊎◌, false, map, string_byt
 ghost use Rattle.layer_commands.specs.declared.refusal.Refusal.TheVariants as refused;
 ghost use Rattle.tool_setup.specs.Words.{command_of};
 ghost use Rattle.lane_serve.specs.Listeners.{IsFresh};
-ghost use Rattle.lane_export.specs.Lanes.{stream_of};
-ghost use Rattle.lane_export.specs.Exporting.{HaveSameFiles, HasExported, RunsWords, connections_if};
+ghost use Rattle.lane_export.specs.Exporting.{HaveSameFiles, HasExported, IsComplete, RunsWords, connections_if, moment};
 ghost use Rattle.lane_export.specs.declared.parts.Parts.{Parts};
 
 use crate::harbour::Harbour;
@@ -70,10 +69,25 @@ fn export_parts<
           takes = false;
           export = export.entry.now;
         })
-        D.Disk S.Shelf L.told L.faults parts.disk result.0.disk parts.control_shelf result.0.control_shelf
-        parts.lanes result.0.lanes connections
-        (stream_of A.Source B.Sink parts.control_source parts.control_sink)
-        (stream_of A.Source B.Sink result.0.control_source result.0.control_sink) result.2 result.1 }
+        D.Disk S.Shelf L.told L.faults
+        (moment A.Source B.Sink parts.disk parts.control_shelf parts.lanes parts.control_source parts.control_sink)
+        (moment A.Source B.Sink result.0.disk result.0.control_shelf result.0.lanes result.0.control_source
+        result.0.control_sink)
+        connections result.2 result.1 }
+    ensures complete { IsComplete
+        (record {
+          left = L.A.left;
+          reads = L.A.faults;
+          written = L.B.written;
+          writes = L.B.faults;
+          takes = false;
+          export = export.entry.now;
+        })
+        D.Disk S.Shelf L.told L.faults
+        (moment A.Source B.Sink parts.disk parts.control_shelf parts.lanes parts.control_source parts.control_sink)
+        (moment A.Source B.Sink result.0.disk result.0.control_shelf result.0.lanes result.0.control_source
+        result.0.control_sink)
+        connections result.2 result.1 }
 {
     let Parts {
         disk,
@@ -137,12 +151,26 @@ pub fn run_export<W: Harbour, R: Threads + Wait + Sync>(
           takes = false;
           export = W.exported harbour.old;
         })
-        W.D.Disk W.S.Shelf W.L.told W.L.faults before.disk after.disk before.control_shelf
-        after.control_shelf before.lanes after.lanes connections
-        (stream_of W.A.Source W.B.Sink before.control_source before.control_sink)
-        (stream_of W.A.Source W.B.Sink after.control_source after.control_sink)
-        (W.end harbour.new) result.code)))
-        result.code }
+        W.D.Disk W.S.Shelf W.L.told W.L.faults
+        (moment W.A.Source W.B.Sink before.disk before.control_shelf before.lanes before.control_source
+        before.control_sink)
+        (moment W.A.Source W.B.Sink after.disk after.control_shelf after.lanes after.control_source after.control_sink)
+        connections (W.end harbour.new) result.code))) result.code }
+    ensures complete { IfSome (connections_if (command_of (map string_bytes words.now))) (λ connections.
+        IfSome (W.home harbour.old) (λ before. IfSome (W.home harbour.new) (λ after. IsComplete
+        (record {
+          left = W.L.A.left;
+          reads = W.L.A.faults;
+          written = W.L.B.written;
+          writes = W.L.B.faults;
+          takes = false;
+          export = W.exported harbour.old;
+        })
+        W.D.Disk W.S.Shelf W.L.told W.L.faults
+        (moment W.A.Source W.B.Sink before.disk before.control_shelf before.lanes before.control_source
+        before.control_sink)
+        (moment W.A.Source W.B.Sink after.disk after.control_shelf after.lanes after.control_source after.control_sink)
+        connections (W.end harbour.new) result.code))) }
 {
     let connections = match read_connections(alloc, words) {
         Ok(connections) => connections,

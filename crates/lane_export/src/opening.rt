@@ -4,8 +4,7 @@ ghost use Rattle.image_core.specs.Seen.{seen, disk_of};
 ghost use Rattle.image_commands.specs.Images.{disk_port};
 ghost use Rattle.image_commands.specs.ImageSteps.{IsOpened};
 ghost use Rattle.lane_serve.specs.Listeners.{IsFresh};
-ghost use Rattle.lane_export.specs.Lanes.{stream_of};
-ghost use Rattle.lane_export.specs.Exporting.{HaveSameFiles, HasExported, IsBaseOf, end_code};
+ghost use Rattle.lane_export.specs.Exporting.{HaveSameFiles, HasExported, IsBaseOf, IsComplete, end_code, moment};
 
 use crate::cached_lanes::export_cached;
 use crate::export_end::ExportEnd;
@@ -98,9 +97,23 @@ pub(crate) fn export_disk<
           takes = false;
           export = export.entry.now;
         })
-        D.Disk S.Shelf L.told L.faults disk result.0 control.shelf result.2.shelf pairs.items result.1.items
-        connections (stream_of A.Source B.Sink control.source control.sink)
-        (stream_of A.Source B.Sink result.2.source result.2.sink) result.4 result.3 }
+        D.Disk S.Shelf L.told L.faults
+        (moment A.Source B.Sink disk control.shelf pairs.items control.source control.sink)
+        (moment A.Source B.Sink result.0 result.2.shelf result.1.items result.2.source result.2.sink)
+        connections result.4 result.3 }
+    ensures complete { IsComplete
+        (record {
+          left = L.A.left;
+          reads = L.A.faults;
+          written = L.B.written;
+          writes = L.B.faults;
+          takes = false;
+          export = export.entry.now;
+        })
+        D.Disk S.Shelf L.told L.faults
+        (moment A.Source B.Sink disk control.shelf pairs.items control.source control.sink)
+        (moment A.Source B.Sink result.0 result.2.shelf result.1.items result.2.source result.2.sink)
+        connections result.4 result.3 }
 {
     let Control {
         shelf,

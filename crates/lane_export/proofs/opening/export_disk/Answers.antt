@@ -1,8 +1,9 @@
-use Rattle.std.proofs.Common.{◌∙◌, ◌&&◌, ℕ, Bool, inr, is_some, false, sym, subst}
+use Rattle.std.proofs.Common.{◌∙◌, ◌&&◌, ℕ, Bool, inl, inr, is_some, false, refl, sym, subst}
 use Rattle.lane_serve.specs.Lanes.{Ways}
 use Rattle.lane_export.specs.Lanes.{Exports, ControlStart, stream_of}
 use Rattle.image_core.specs.Seen.{seen, with_disk}
 use Rattle.lane_export.proofs.Mounting.{opened-now, quiet-seen, found-same, lies-before, told-lowers}
+use Rattle.lane_export.proofs.Complete.{complete}
 use Rattle.lane_export.proofs.opening.export_disk.Goals as goal
 
 pub base_of-base-requires : goal.base_of-base-requires
@@ -12,7 +13,7 @@ base_of-base-requires g c =
     c.in-Ok.ensures.same.files c.in-Ok.ensures.same.count c.in-Ok.ensures.quiet c.in-Ok.ensures.opened
 
 pub export_cached-image-requires-clause-stands : goal.export_cached-image-requires-clause-stands
-export_cached-image-requires-clause-stands g c κs within = c.base_of-base.ensures.2
+export_cached-image-requires-clause-stands g c κs within = c.base_of-base.ensures.3
 
 pub export_cached-image-requires-clause-control_count : goal.export_cached-image-requires-clause-control_count
 export_cached-image-requires-clause-control_count g c κs within = sym c.base_of-base.ensures.0.long
@@ -42,9 +43,11 @@ returns-clause-exports g c =
           same.files same.count c.base_of-base.ensures.0;
       found = found-same g.D.Disk.tells (g.D.Disk.state c.in-Ok.image.disk) (g.D.Disk.state c.args.disk) (g.D.Disk.faults c.in-Ok.image.disk) (g.D.Disk.faults c.args.disk) base
           (sym (quiet-seen (g.D.Disk.state c.args.disk) (g.D.Disk.state c.in-Ok.image.disk) c.in-Ok.ensures.quiet)) c.base_of-base.ensures.1;
+      faults_are = c.base_of-base.ensures.2 ∙ c.in-Ok.ensures.cause;
       parts = image.parts;
       end = c.export_cached-image.result.2;
       code_is = c.code_of.ensures;
+      many = c.export_cached-image.ensures.count;
       exports = subst
           (λ (x : ControlStart). Exports w base tells faults told counted c.args.pairs.items c.export_cached-image.result.1.items c.args.connections x now c.export_cached-image.result.4 (with_disk g.D.Disk c.into_disk.result image.parts) c.export_cached-image.result.2)
           (λ i. record { tells = g.D.Disk.tells && is_some (same.files i); shelf = c.in-Ok.ensures.shelf_cause i; stream = stream_of g.A.Source g.B.Sink c.args.control.source c.args.control.sink })
@@ -54,3 +57,12 @@ returns-clause-exports g c =
           now c.export_cached-image.result.4 (with_disk g.D.Disk disk image.parts) c.export_cached-image.result.2)
           (sym c.into_disk.ensures) c.export_cached-image.ensures.exports);
     })
+
+pub returns-clause-complete : goal.returns-clause-complete
+returns-clause-complete g c =
+    complete _ g.D.Disk g.S.Shelf _ _ _ _ _ _ _ ((g.met.S.Shelf g.world.𝓛 g.world.𝓜 g.world.𝓡 ((λ s x. x), (λ x. x), (λ x. x), (λ x. x))).counted c.args.control.shelf) (returns-clause-exports g c)
+
+pub returns-in-Err-clause-complete : goal.returns-in-Err-clause-complete
+returns-in-Err-clause-complete g c =
+    complete _ g.D.Disk g.S.Shelf _ _ _ _ _ _ _ ((g.met.S.Shelf g.world.𝓛 g.world.𝓜 g.world.𝓡 ((λ s x. x), (λ x. x), (λ x. x), (λ x. x))).counted c.args.control.shelf)
+    (inl (record { refusal = c.in-Err.refusal; code_is = c.code.ensures; cause = c.in-Err.ensures.refused; quiet = c.in-Err.ensures.quiet; same = refl; stream_same = refl; unserved = refl }))
