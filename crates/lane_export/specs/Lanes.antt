@@ -7,19 +7,22 @@ use Rattle.flat_image.specs.declared.port_fault.PortFault.TheVariants as fault
 use Rattle.image_core.specs.Seen.{Seen, StandsFor}
 use Rattle.lane_export.specs.declared.export_end.ExportEnd.{ExportEnd}
 use Rattle.lane_export.specs.declared.export_end.ExportEnd.TheVariants as export_end
-use Rattle.std.specs.Prelude.{◌||◌, true, ◌≡◌, ◌⊎◌, ℕ, ◌^◌, ◌<◌, Bool, false, List, [], ◌∷◌, ◌++◌, length, map, slice_index_or, Option, Some, None, All, Result, Ok, Err}
+use Rattle.std.specs.Prelude.{◌||◌, ◌&&◌, is_some, true, ◌≡◌, ◌⊎◌, ℕ, ◌^◌, ◌<◌, Bool, false, List, [], ◌∷◌, ◌++◌, length, map, slice_index_or, Option, Some, None, All, Result, Ok, Err}
 use Rattle.atomic_table.specs.Seated.{TableId}
 use Rattle.flat_image.specs.declared.act.Act.{Act}
 use Rattle.flat_image.specs.Entries.{entry, calls_by, StartsWith}
 use Rattle.flat_image.specs.History.{History}
 use Rattle.flat_image.specs.Ports.{PortState}
 use Rattle.turn_lock.specs.Locks.{Lock, Place, place}
+use Rattle.nbd_session.specs.declared.export.Export.{Export}
 use Rattle.nbd_session.specs.declared.served.Served.{Served}
 use Rattle.shared_image.specs.Turns.{seat_port}
 use Rattle.image_read.specs.Reading.{IsSeatOf}
 use Rattle.lane_serve.specs.declared.lane.LaneEnd.{LaneEnd}
 use Rattle.lane_serve.specs.declared.lane.LaneEnd.TheVariants as end_is
 use Rattle.lane_serve.specs.Listeners.{Listening}
+use Rattle.block_disk.specs.declared.disk.Disk as disks
+use Rattle.layer_shelf.specs.declared.shelves.Shelf as shelves
 use Rattle.byte_ports.specs.declared.ports.Source as sources
 use Rattle.byte_ports.specs.declared.ports.Sink as sinks
 use Rattle.lane_serve.specs.Lanes.{Ways, Runs}
@@ -27,11 +30,18 @@ use Rattle.control_session.specs.declared.control_end.ControlEnd.{ControlEnd}
 use Rattle.control_session.specs.Controls.{control}
 use Rattle.control_session.specs.Sessions.{Ends, ends, Serves}
 
+-- what the sources and the sinks of a listener tell, over a port whose flush takes no memory
+abbrev pub ways_of : {A B : Type 0} → sources.Ghosts A → sinks.Ghosts B → Export → Ways A B
+ways_of a b export = record { left = a.left; reads = a.faults; written = b.written; writes = b.faults; takes = false; export = export }
+
 -- a lane at one moment: its port, what its listener tells, and that one's count of faults
 pub record Member (A B : Type 0) : Type 0 where
   pub port : PortState
   pub told : Option (Listening A B Served)
   pub faults : ℕ
+
+abbrev pub member : {A B L : Type 0} → (L → Option (Listening A B Served)) → (L → ℕ) → PortState → L → Member A B
+member told faults port listener = record { port = port; told = told listener; faults = faults listener }
 
 -- what a lane did
 abbrev pub LaneRan : {A B : Type 0} → Ways A B → Member A B → Member A B → ℕ → LaneEnd → Type 0
@@ -101,6 +111,10 @@ pub record ControlStart : Type 0 where
   pub tells : Bool
   pub shelf : ℕ
   pub stream : Stream
+
+-- the control of a shelf and a stream, beside a disk
+abbrev pub start_of : {D S : Type 0} → disks.Ghosts D → shelves.Ghosts S → S → Stream → ControlStart
+start_of d s shelf stream = record { tells = d.tells && is_some (s.files shelf); shelf = s.faults shelf; stream = stream }
 
 abbrev pub ends_at : Stream → PortState → Ends
 ends_at stream port = ends stream.left stream.reads stream.written stream.writes port
@@ -182,3 +196,9 @@ Exports w base tells shelf told faults old new connections start stream ended im
     HasServed w base tells shelf told faults old new connections start stream ended image export_end.Worn
 Exports w base tells shelf told faults old new connections start stream ended image export_end.Memory =
     StandsFor image base [] × (new ≡ old) × (stream ≡ start.stream) × (ended ≡ None)
+
+-- the same of lanes that are pairs of a shelf and a listener, over an image on a disk
+abbrev pub ExportsLanes : {D S L A B : Type 0} → Ways A B → disks.Ghosts D → shelves.Ghosts S → (L → Option (Listening A B Served)) → (L → ℕ) → Base → List (S × L) → List (S × L) → ℕ
+    → ControlStart → Stream → Option ControlEnd → Seen → ExportEnd → Type 0
+ExportsLanes w d s told faults base old new connections start stream ended image end =
+    Exports w base (λ pair. d.tells && is_some (s.files pair.0)) (λ pair. s.faults pair.0) (λ pair. told pair.1) (λ pair. faults pair.1) old new connections start stream ended image end

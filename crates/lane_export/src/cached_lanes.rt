@@ -5,7 +5,7 @@ ghost use Rattle.image_core.specs.Seen.{seen, StandsFor};
 ghost use Rattle.std.specs.Option.{ForSome};
 ghost use Rattle.lane_serve.specs.Listeners.{IsFresh};
 ghost use Rattle.lane_export.specs.Exporting.{HaveSameFiles};
-ghost use Rattle.lane_export.specs.Lanes.{Exports, stream_of};
+ghost use Rattle.lane_export.specs.Lanes.{ExportsLanes, start_of, stream_of, ways_of};
 
 use crate::caching::{cache_all, cache_control, start_cache, uncached, uncached_control};
 use crate::export_end::ExportEnd;
@@ -60,23 +60,10 @@ fn export_named<
     requires control_told { ForSome (S.files control.shelf) (λ files. files ≡ base.value.lowers) }
     requires fresh { All (λ pair. IsFresh (L.told pair.1)) pairs.items }
     ensures count { length result.1.items ≡ length pairs.items }
-    ensures exports { Exports
-        (record {
-          left = L.A.left;
-          reads = L.A.faults;
-          written = L.B.written;
-          writes = L.B.faults;
-          takes = false;
-          export = export.entry.now;
-        })
-        base.value (λ pair. D.tells && is_some (S.files pair.0)) (λ pair. S.faults pair.0) (λ pair. L.told pair.1)
-        (λ pair. L.faults pair.1)
-        pairs.items result.1.items connections
-        (record {
-          tells = D.tells && is_some (S.files control.shelf);
-          shelf = S.faults control.shelf;
-          stream = stream_of A.Source B.Sink control.source control.sink;
-        })
+    ensures exports { ExportsLanes
+        (ways_of L.A.Source L.B.Sink export.entry.now) D.Disk S.Shelf L.told L.faults base.value pairs.items
+        result.1.items connections
+        (start_of D.Disk S.Shelf control.shelf (stream_of A.Source B.Sink control.source control.sink))
         (stream_of A.Source B.Sink result.3.source result.3.sink) result.4 (seen D.Disk result.0) result.2 }
 {
     let _ = base;
@@ -120,23 +107,10 @@ fn export_with<
     requires control_told { ForSome (S.files control.shelf) (λ files. files ≡ base.value.lowers) }
     requires fresh { All (λ pair. IsFresh (L.told pair.1)) pairs.items }
     ensures count { length result.1.items ≡ length pairs.items }
-    ensures exports { Exports
-        (record {
-          left = L.A.left;
-          reads = L.A.faults;
-          written = L.B.written;
-          writes = L.B.faults;
-          takes = false;
-          export = export.entry.now;
-        })
-        base.value (λ pair. D.tells && is_some (S.files pair.0)) (λ pair. S.faults pair.0) (λ pair. L.told pair.1)
-        (λ pair. L.faults pair.1)
-        pairs.items result.1.items connections
-        (record {
-          tells = D.tells && is_some (S.files control.shelf);
-          shelf = S.faults control.shelf;
-          stream = stream_of A.Source B.Sink control.source control.sink;
-        })
+    ensures exports { ExportsLanes
+        (ways_of L.A.Source L.B.Sink export.entry.now) D.Disk S.Shelf L.told L.faults base.value pairs.items
+        result.1.items connections
+        (start_of D.Disk S.Shelf control.shelf (stream_of A.Source B.Sink control.source control.sink))
         (stream_of A.Source B.Sink result.3.source result.3.sink) result.4 (seen D.Disk result.0) result.2 }
 {
     let count = pairs.len();
@@ -213,23 +187,10 @@ pub(crate) fn export_cached<
     requires control_told { ForSome (S.files control.shelf) (λ files. files ≡ base.value.lowers) }
     requires fresh { All (λ pair. IsFresh (L.told pair.1)) pairs.items }
     ensures count { length result.1.items ≡ length pairs.items }
-    ensures exports { Exports
-        (record {
-          left = L.A.left;
-          reads = L.A.faults;
-          written = L.B.written;
-          writes = L.B.faults;
-          takes = false;
-          export = export.entry.now;
-        })
-        base.value (λ pair. D.tells && is_some (S.files pair.0)) (λ pair. S.faults pair.0) (λ pair. L.told pair.1)
-        (λ pair. L.faults pair.1)
-        pairs.items result.1.items connections
-        (record {
-          tells = D.tells && is_some (S.files control.shelf);
-          shelf = S.faults control.shelf;
-          stream = stream_of A.Source B.Sink control.source control.sink;
-        })
+    ensures exports { ExportsLanes
+        (ways_of L.A.Source L.B.Sink export.entry.now) D.Disk S.Shelf L.told L.faults base.value pairs.items
+        result.1.items connections
+        (start_of D.Disk S.Shelf control.shelf (stream_of A.Source B.Sink control.source control.sink))
         (stream_of A.Source B.Sink result.3.source result.3.sink) result.4 (seen D.Disk result.0) result.2 }
 {
     let count = pairs.len();

@@ -3,6 +3,7 @@ ghost use Rattle.std.specs.Prelude.{◌≡◌, ◌⊎◌, false, map, string_byt
 ghost use Rattle.layer_commands.specs.declared.refusal.Refusal.TheVariants as refused;
 ghost use Rattle.tool_setup.specs.Words.{command_of};
 ghost use Rattle.lane_serve.specs.Listeners.{IsFresh};
+ghost use Rattle.lane_export.specs.Lanes.{ways_of};
 ghost use Rattle.lane_export.specs.Exporting.{HaveSameFiles, HasExported, IsComplete, RunsWords, connections_if, moment};
 ghost use Rattle.lane_export.specs.declared.parts.Parts.{Parts};
 
@@ -61,28 +62,14 @@ fn export_parts<
     requires same { HaveSameFiles S.files S.count parts.control_shelf parts.lanes }
     requires fresh { All (λ pair. IsFresh (L.told pair.1)) parts.lanes }
     ensures exports { HasExported
-        (record {
-          left = L.A.left;
-          reads = L.A.faults;
-          written = L.B.written;
-          writes = L.B.faults;
-          takes = false;
-          export = export.entry.now;
-        })
+        (ways_of L.A.Source L.B.Sink export.entry.now)
         D.Disk S.Shelf L.told L.faults
         (moment A.Source B.Sink parts.disk parts.control_shelf parts.lanes parts.control_source parts.control_sink)
         (moment A.Source B.Sink result.0.disk result.0.control_shelf result.0.lanes result.0.control_source
         result.0.control_sink)
         connections result.2 result.1 }
     ensures complete { IsComplete
-        (record {
-          left = L.A.left;
-          reads = L.A.faults;
-          written = L.B.written;
-          writes = L.B.faults;
-          takes = false;
-          export = export.entry.now;
-        })
+        (ways_of L.A.Source L.B.Sink export.entry.now)
         D.Disk S.Shelf L.told L.faults
         (moment A.Source B.Sink parts.disk parts.control_shelf parts.lanes parts.control_source parts.control_sink)
         (moment A.Source B.Sink result.0.disk result.0.control_shelf result.0.lanes result.0.control_source
@@ -143,14 +130,7 @@ pub fn run_export<W: Harbour, R: Threads + Wait + Sync>(
     ensures kept { (W.set_to harbour.new ≡ W.set_to harbour.old) × (W.exported harbour.new ≡ W.exported harbour.old) }
     ensures runs { RunsWords (connections_if (command_of (map string_bytes words.now))) (harbour.new ≡ harbour.old)
         (λ connections. IfSome (W.home harbour.old) (λ before. IfSome (W.home harbour.new) (λ after. HasExported
-        (record {
-          left = W.L.A.left;
-          reads = W.L.A.faults;
-          written = W.L.B.written;
-          writes = W.L.B.faults;
-          takes = false;
-          export = W.exported harbour.old;
-        })
+        (ways_of W.L.A.Source W.L.B.Sink (W.exported harbour.old))
         W.D.Disk W.S.Shelf W.L.told W.L.faults
         (moment W.A.Source W.B.Sink before.disk before.control_shelf before.lanes before.control_source
         before.control_sink)
@@ -158,14 +138,7 @@ pub fn run_export<W: Harbour, R: Threads + Wait + Sync>(
         connections (W.end harbour.new) result.code))) result.code }
     ensures complete { IfSome (connections_if (command_of (map string_bytes words.now))) (λ connections.
         IfSome (W.home harbour.old) (λ before. IfSome (W.home harbour.new) (λ after. IsComplete
-        (record {
-          left = W.L.A.left;
-          reads = W.L.A.faults;
-          written = W.L.B.written;
-          writes = W.L.B.faults;
-          takes = false;
-          export = W.exported harbour.old;
-        })
+        (ways_of W.L.A.Source W.L.B.Sink (W.exported harbour.old))
         W.D.Disk W.S.Shelf W.L.told W.L.faults
         (moment W.A.Source W.B.Sink before.disk before.control_shelf before.lanes before.control_source
         before.control_sink)

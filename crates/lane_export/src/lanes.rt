@@ -13,7 +13,7 @@ ghost use Rattle.image_control.specs.Seats.{IsSeatOf};
 ghost use Rattle.lane_serve.specs.Listeners.{IsFresh};
 ghost use Rattle.lane_serve.specs.declared.lane.LaneEnd.{LaneEnd};
 ghost use Rattle.lane_export.specs.Ran.{AllRan};
-ghost use Rattle.lane_export.specs.Lanes.{is_failed, any_failed, Member, LaneRan, LaneDone, LaneIn, AreFirst, first_port, end_by, Exports, AreDealt, AreGathered, ends_at, stream_of, ControlDone};
+ghost use Rattle.lane_export.specs.Lanes.{is_failed, any_failed, member, LaneRan, LaneDone, LaneIn, AreFirst, first_port, end_by, ExportsLanes, AreDealt, AreGathered, ends_at, start_of, stream_of, ways_of, ControlDone};
 
 use crate::export_end::ExportEnd;
 use crate::parts::Control;
@@ -50,26 +50,9 @@ fn run_lane<'a, D: Disk, S: Shelf, L: Listener<E = Served>, R: Wait>(
     lane: &mut Lane<'a, D, S, L, R>,
 )
     requires { IsFresh (L.told lane.old.listener) }
-    ensures { LaneRan (record {
-      left = L.A.left;
-      reads = L.A.faults;
-      written = L.B.written;
-      writes = L.B.faults;
-      takes = false;
-      export = export.now;
-    })
-        (record {
-          port = ⟦<Reader<'a, D, S, R> as ImagePort>⟧.state lane.old.reader;
-          told = L.told
-              lane.old.listener;
-          faults = L.faults lane.old.listener;
-        })
-        (record {
-          port = ⟦<Reader<'a, D, S, R> as ImagePort>⟧.state lane.new.reader;
-          told = L.told
-              lane.new.listener;
-          faults = L.faults lane.new.listener;
-        })
+    ensures { LaneRan (ways_of L.A.Source L.B.Sink export.now)
+        (member L.told L.faults (⟦<Reader<'a, D, S, R> as ImagePort>⟧.state lane.old.reader) lane.old.listener)
+        (member L.told L.faults (⟦<Reader<'a, D, S, R> as ImagePort>⟧.state lane.new.reader) lane.new.listener)
         connections lane.new.end }
 {
     let end = serve_lane(
@@ -91,25 +74,8 @@ fn run_lanes<
     R: Threads + Wait + Sync,
 >(rt: &R, alloc: Global, export: &Export, connections: u64, lanes: &mut [Lane<'a, D, S, L, R>])
     requires { All (λ lane. IsFresh (L.told lane.listener)) lanes.old }
-    ensures { (k : ℕ) (d : _) → k < length lanes.old → LaneRan (record {
-      left = L.A.left;
-      reads = L.A.faults;
-      written = L.B.written;
-      writes = L.B.faults;
-      takes = false;
-      export = export.now;
-    })
-        (record {
-          port = ⟦<Reader<'a, D, S, R> as ImagePort>⟧.state (slice_index_or lanes.old k d).reader;
-          told = L.told (slice_index_or lanes.old k d).listener;
-          faults = L.faults (slice_index_or lanes.old k d).listener;
-        })
-        (record {
-          port = ⟦<Reader<'a, D, S, R> as ImagePort>⟧.state (slice_index_or lanes.new k d).reader;
-          told = L.told (slice_index_or lanes.new k d).listener;
-          faults = L.faults (slice_index_or lanes.new k d).listener;
-        })
-        connections (slice_index_or lanes.new k d).end }
+    ensures { AllRan D.tells S.files S.faults L.told L.faults (ways_of L.A.Source L.B.Sink export.now)
+        connections lanes.old lanes.new }
 {
     let threads = lanes.len().max(1);
     thread::for_each_mut(
@@ -224,39 +190,15 @@ fn run_all<
 )
     requires fresh { All (λ lane. IsFresh (L.told lane.listener)) lanes.old }
     requires other { Y.ready other.old }
-    ensures lanes { (k : ℕ) (d : _) → k < length lanes.old → LaneRan (record {
-      left = L.A.left;
-      reads = L.A.faults;
-      written = L.B.written;
-      writes = L.B.faults;
-      takes = false;
-      export = export.now;
-    })
-        (record {
-          port = ⟦<Reader<'a, D, S, R> as ImagePort>⟧.state (slice_index_or lanes.old k d).reader;
-          told = L.told (slice_index_or lanes.old k d).listener;
-          faults = L.faults (slice_index_or lanes.old k d).listener;
-        })
-        (record {
-          port = ⟦<Reader<'a, D, S, R> as ImagePort>⟧.state (slice_index_or lanes.new k d).reader;
-          told = L.told (slice_index_or lanes.new k d).listener;
-          faults = L.faults (slice_index_or lanes.new k d).listener;
-        })
-        connections (slice_index_or lanes.new k d).end }
+    ensures lanes { AllRan D.tells S.files S.faults L.told L.faults (ways_of L.A.Source L.B.Sink export.now)
+        connections lanes.old lanes.new }
     ensures other { Y.done other.old other.new }
 {
     let serve = |_: usize, lanes: &mut [Lane<D, S, L, R>]|
         requires { IsSync R.row × IsSend D.row × IsSend S.row × IsSend L.row
             × All (λ lane. IsFresh (L.told lane.listener)) lanes.now }
         ensures { AllRan D.tells S.files S.faults L.told L.faults
-            (record {
-              left = L.A.left;
-              reads = L.A.faults;
-              written = L.B.written;
-              writes = L.B.faults;
-              takes = false;
-              export = export.entry.now;
-            })
+            (ways_of L.A.Source L.B.Sink export.entry.now)
             connections lanes.entry.now lanes.exit.now }
     { run_lanes(rt, alloc, export, connections, lanes) };
     work_beside(rt, &serve, other, lanes);
@@ -469,20 +411,11 @@ fn serve_in_lanes<
     ensures met { IfOk result (λ r. All (λ lane. StartsWith r.3.seen lane.seen) r.0.items) }
     ensures lanes { IfOk result (λ r. (ends : List LaneEnd) × (r.2 ≡ any_failed ends) × (length ends ≡ length
         pairs.items) × ((k : ℕ) (e : _) (f : _) (s : _) (d : _) → k < length pairs.items → LaneDone
-        (record {
-          left = L.A.left;
-          reads = L.A.faults;
-          written = L.B.written;
-          writes = L.B.faults;
-          takes = false;
-          export = export.entry.now;
-        })
-        (record {
-          port = first_port (D.tells && is_some (S.files (slice_index_or pairs.items k e).0))
-              image.entry.now k (S.faults (slice_index_or pairs.items k e).0);
-          told = L.told (slice_index_or pairs.items k e).1;
-          faults = L.faults (slice_index_or pairs.items k e).1;
-        })
+        (ways_of L.A.Source L.B.Sink export.entry.now)
+        (member L.told L.faults
+        (first_port (D.tells && is_some (S.files (slice_index_or pairs.items k e).0)) image.entry.now k
+        (S.faults (slice_index_or pairs.items k e).0))
+        (slice_index_or pairs.items k e).1)
         (L.told (slice_index_or r.1.items k f).1) (L.faults (slice_index_or r.1.items k f).1) (slice_index_or
         r.0.items k s) connections (slice_index_or ends k d))) }
     ensures unserved { IfErr result (λ r. (r.0.items ≡ seats.items) × (vec_capacity r.0 ≡ vec_capacity seats) ×
@@ -566,23 +499,10 @@ pub fn export_image<
     requires control_told { ForSome (S.files control.shelf) (λ files. files ≡ N.it.lowers) }
     requires fresh { All (λ pair. IsFresh (L.told pair.1)) pairs.items }
     ensures count { length result.1.items ≡ length pairs.items }
-    ensures exports { Exports
-        (record {
-          left = L.A.left;
-          reads = L.A.faults;
-          written = L.B.written;
-          writes = L.B.faults;
-          takes = false;
-          export = export.entry.now;
-        })
-        N.it (λ pair. D.tells && is_some (S.files pair.0)) (λ pair. S.faults pair.0) (λ pair. L.told pair.1)
-        (λ pair. L.faults pair.1)
-        pairs.items result.1.items connections
-        (record {
-          tells = D.tells && is_some (S.files control.shelf);
-          shelf = S.faults control.shelf;
-          stream = stream_of A.Source B.Sink control.source control.sink;
-        })
+    ensures exports { ExportsLanes
+        (ways_of L.A.Source L.B.Sink export.entry.now) D.Disk S.Shelf L.told L.faults N.it pairs.items
+        result.1.items connections
+        (start_of D.Disk S.Shelf control.shelf (stream_of A.Source B.Sink control.source control.sink))
         (stream_of A.Source B.Sink result.3.source result.3.sink) result.4 (seen D.Disk result.0) result.2 }
 {
     let count = pairs.len();

@@ -4,6 +4,7 @@ ghost use Rattle.image_core.specs.Seen.{seen, disk_of};
 ghost use Rattle.image_commands.specs.Images.{disk_port};
 ghost use Rattle.image_commands.specs.ImageSteps.{IsOpened};
 ghost use Rattle.lane_serve.specs.Listeners.{IsFresh};
+ghost use Rattle.lane_export.specs.Lanes.{ways_of};
 ghost use Rattle.lane_export.specs.Exporting.{HaveSameFiles, HasExported, IsBaseOf, IsComplete, end_code, moment};
 
 use crate::cached_lanes::export_cached;
@@ -89,27 +90,13 @@ pub(crate) fn export_disk<
     requires fresh { All (λ pair. IsFresh (L.told pair.1)) pairs.items }
     ensures count { length result.1.items ≡ length pairs.items }
     ensures exports { HasExported
-        (record {
-          left = L.A.left;
-          reads = L.A.faults;
-          written = L.B.written;
-          writes = L.B.faults;
-          takes = false;
-          export = export.entry.now;
-        })
+        (ways_of L.A.Source L.B.Sink export.entry.now)
         D.Disk S.Shelf L.told L.faults
         (moment A.Source B.Sink disk control.shelf pairs.items control.source control.sink)
         (moment A.Source B.Sink result.0 result.2.shelf result.1.items result.2.source result.2.sink)
         connections result.4 result.3 }
     ensures complete { IsComplete
-        (record {
-          left = L.A.left;
-          reads = L.A.faults;
-          written = L.B.written;
-          writes = L.B.faults;
-          takes = false;
-          export = export.entry.now;
-        })
+        (ways_of L.A.Source L.B.Sink export.entry.now)
         D.Disk S.Shelf L.told L.faults
         (moment A.Source B.Sink disk control.shelf pairs.items control.source control.sink)
         (moment A.Source B.Sink result.0 result.2.shelf result.1.items result.2.source result.2.sink)
