@@ -142,7 +142,18 @@ Cause command before now (refused.Stack fault) =
 Cause command before now refused.ShelfFault = (ReadsSource command → ⊥) × (PrintsNothing before now ⊎ PrintsFront command before now)
 Cause command before now refused.SinkFault = PrintsFront command before now
 Cause command before now refused.Memory = TakesAtMost before.left now.left (input_limit command) × (PrintsNothing before now ⊎ PrintsFront command before now)
-Cause command before now other = ⊥
+Cause command before now refused.Usage = ⊥
+Cause command before now refused.DiskFault = ⊥
+Cause command before now refused.NotWholeSectors = ⊥
+Cause command before now refused.NoSize = ⊥
+Cause command before now refused.OtherSize = ⊥
+Cause command before now refused.ImageExists = ⊥
+Cause command before now refused.OutOfRange = ⊥
+Cause command before now (refused.Full rows sectors) = ⊥
+Cause command before now (refused.Busy uuid) = ⊥
+Cause command before now (refused.NotLarger sectors) = ⊥
+Cause command before now refused.TooManyLayers = ⊥
+Cause command before now refused.UuidTwice = ⊥
 
 -- The count of each object's faults never falls in a run, and it rises just where the run is refused as that object's fault.
 pub record AreCharged (before now : Ports) (told : Refusal → Type 0) : Type 0 where
@@ -156,6 +167,7 @@ pub record IsCounted (command : Command) (count : ℕ) (told : Refusal → Type 
   pub missing : IsMissing command count → told refused.NoLayer
   pub empty : ReadsStack command → count ≡ 0 → told (refused.Stack stack.Empty)
   pub few : done → ReadsStack command → count ≤ 255
+  pub sink : told refused.SinkFault → ReadsStack command → count ≤ 255
 
 -- the one line of a refusal was written, or a front of it where the count of faults rose
 abbrev pub IsNoted : Notes → Notes → List ℕ → Type 0

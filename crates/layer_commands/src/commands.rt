@@ -54,6 +54,7 @@ pub fn flatten_shelf<B: Sink, S: Shelf>(
         (by_shelf B.Sink S.Shelf out.old shelf.old) (by_shelf B.Sink S.Shelf out.new shelf.new)) }
     ensures empty { S.count shelf.old ≡ 0 → IsErrOf result (Refusal.Stack Empty) }
     ensures few { OnOk result (S.count shelf.old ≤ 255) }
+    ensures sink_few { IsErrOf result Refusal.SinkFault → S.count shelf.old ≤ 255 }
     ensures shelf_cause { Charges S.faults shelf.old shelf.new (IsErrOf result Refusal.ShelfFault) }
     ensures sink_cause { Charges B.faults out.old out.new (IsErrOf result Refusal.SinkFault) }
 {
@@ -100,6 +101,7 @@ pub fn print_stack<B: Sink, S: Shelf>(
         (by_shelf B.Sink S.Shelf out.old shelf.old) (by_shelf B.Sink S.Shelf out.new shelf.new)) }
     ensures empty { S.count shelf.old ≡ 0 → IsErrOf result (Refusal.Stack Empty) }
     ensures few { OnOk result (S.count shelf.old ≤ 255) }
+    ensures sink_few { IsErrOf result Refusal.SinkFault → S.count shelf.old ≤ 255 }
     ensures shelf_cause { Charges S.faults shelf.old shelf.new (IsErrOf result Refusal.ShelfFault) }
     ensures sink_cause { Charges B.faults out.old out.new (IsErrOf result Refusal.SinkFault) }
 {

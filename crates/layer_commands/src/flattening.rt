@@ -1,5 +1,5 @@
 //! Writes the flat image of layers piece by piece.
-ghost use Rattle.std.specs.Prelude.{◌≡◌, ◌+◌, ◌*◌, ◌^◌, ◌<◌, ◌≤◌, ◌⊎◌, length, OnOk, OnErr, IfErr, IfSome, IsErr, IsErrOf};
+ghost use Rattle.std.specs.Prelude.{◌≡◌, ◌+◌, ◌*◌, ◌^◌, ◌<◌, ◌≤◌, ◌⊎◌, length, replicate, vec_capacity, OnOk, OnErr, IfErr, IfSome, IsErr, IsErrOf};
 ghost use Rattle.std.specs.Option.{ForSome};
 ghost use Rattle.std.specs.Io.KnownBytes.{Appends};
 ghost use Rattle.sector_extent.specs.Causes.{Charges};
@@ -7,6 +7,7 @@ ghost use Rattle.byte_ports.specs.Ports.{AppendsFront};
 ghost use Rattle.layer_shelf.specs.Shelves.{SameFiles};
 ghost use Rattle.layer_commands.specs.Flattening.{AreTold, FitIn, flat_part, told_flat};
 
+use crate::commands::write_text;
 use crate::refusal::Refusal;
 use byte_ports::Sink;
 use layer_shelf::{Shelf, ShelfFailed};
@@ -17,7 +18,7 @@ use std::alloc::Global;
 // Sectors of a piece, 1 MiB of them.
 const PIECE_SECTORS: u64 = 2048;
 
-// Fills `piece` with `count` sectors of the flat image from `at` on.
+// Paints `count` sectors of the flat image from `at` on over `piece`, which is zeros.
 fn paint_piece<S: Shelf>(
     shelf: &mut S,
     layers: &[Layer],
@@ -27,15 +28,14 @@ fn paint_piece<S: Shelf>(
 ) -> Result<(), ShelfFailed>
     requires files { length layers.now ≡ S.count shelf.old }
     requires few { length layers.now < 2 ^ 32 }
-    requires size { length piece.old ≡ 512 * count }
     requires within { at + count ≤ 2 ^ 31 }
+    requires blank { piece.old ≡ replicate (512 * count) 0 }
     requires told { ForSome (S.files shelf.old) (λ files. AreTold files layers.now) }
     ensures painted { OnOk result (IfSome (S.files shelf.old) (λ files.
         piece.new ≡ flat_part files layers.now at count)) }
     ensures same { SameFiles S.files S.count shelf.old shelf.new }
     ensures cause { Charges S.faults shelf.old shelf.new (IsErr result) }
 {
-    piece.fill(0);
     for (k, layer) in layers.iter().enumerate() {
         paint_part(shelf, k as u32, layer, at, piece)?;
     }
@@ -48,14 +48,15 @@ fn write_piece<B: Sink, S: Shelf>(
     layers: &[Layer],
     at: u64,
     count: u64,
-    piece: &mut [u8],
+    piece: &mut Vec<u8>,
     out: &mut B,
 ) -> Result<(), Refusal>
     requires files { length layers.now ≡ S.count shelf.old }
     requires few { length layers.now < 2 ^ 32 }
-    requires size { length piece.old ≡ 512 * count }
     requires within { at + count ≤ 2 ^ 31 }
+    requires room { 512 * count ≤ vec_capacity piece.old }
     requires told { ForSome (S.files shelf.old) (λ files. AreTold files layers.now) }
+    ensures room { vec_capacity piece.old ≤ vec_capacity piece.new }
     ensures done { OnOk result (IfSome (S.files shelf.old) (λ files.
         Appends (B.written out.old) (B.written out.new) (flat_part files layers.now at count))) }
     ensures front { OnErr result (IfSome (S.files shelf.old) (λ files.
@@ -65,14 +66,16 @@ fn write_piece<B: Sink, S: Shelf>(
     ensures shelf_cause { Charges S.faults shelf.old shelf.new (IsErrOf result Refusal.ShelfFault) }
     ensures sink_cause { Charges B.faults out.old out.new (IsErrOf result Refusal.SinkFault) }
 {
-    match paint_piece(shelf, layers, at, count, piece) {
+    piece.clear();
+    match piece.resize(count as usize * SECTOR, 0) {
+        Ok(()) => {}
+        Err(_) => unreachable!(),
+    }
+    match paint_piece(shelf, layers, at, count, piece.as_mut_slice()) {
         Ok(()) => {}
         Err(_) => return Err(Refusal::ShelfFault),
     }
-    match out.write_all(piece) {
-        Ok(()) => Ok(()),
-        Err(_) => Err(Refusal::SinkFault),
-    }
+    write_text(piece.as_slice(), out)
 }
 
 /// Writes the flat image of the layers, the lowest first, which are the files of the shelf; it has so
@@ -101,12 +104,11 @@ pub fn write_flat<B: Sink, S: Shelf>(
     ensures sink_cause { Charges B.faults out.old out.new (IsErrOf result Refusal.SinkFault) }
 {
     let room = sectors.min(PIECE_SECTORS) as usize * SECTOR;
-    let mut buffer = vec![in alloc; 0; room]?;
+    let mut piece = Vec::with_capacity(alloc, room)?;
     let mut at = 0;
     while at < sectors {
         let count = (sectors - at).min(PIECE_SECTORS);
-        let size = count as usize * SECTOR;
-        write_piece(shelf, layers, at, count, &mut buffer[..size], out)?;
+        write_piece(shelf, layers, at, count, &mut piece, out)?;
         at += count;
     }
     Ok(())

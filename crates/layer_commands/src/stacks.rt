@@ -1,10 +1,11 @@
 //! Reads the layers of a shelf.
-ghost use Rattle.std.specs.Prelude.{◌≡◌, ◌^◌, ◌<◌, ◌≤◌, ◌↔◌, length, map, IfOk, IfErr, IfSome, IsErrOf};
+ghost use Rattle.std.specs.Prelude.{◌≡◌, ◌^◌, ◌<◌, ◌≤◌, ◌↔◌, length, map, All, IfOk, IfErr, IfSome, IsErrOf};
 ghost use Rattle.sector_extent.specs.Causes.{Charges};
 ghost use Rattle.layer_shelf.specs.Shelves.{SameFiles, file_at};
 ghost use Rattle.flat_image.specs.LayerFiles.{LayerOf};
 ghost use Rattle.flat_image.specs.Stacks.{Legal};
 ghost use Rattle.layer_stack.specs.declared.fault.StackFault.TheVariants.{Empty};
+ghost use Rattle.sealed_layer.specs.Layers.{IsLayerIndex};
 ghost use Rattle.layer_commands.specs.Flattening.{AreTold};
 ghost use Rattle.layer_commands.specs.Reading.{AreFilesRefused, IsFileRefusal, IsStackRefusal, refusal_of};
 
@@ -39,12 +40,16 @@ pub fn read_one<S: Shelf>(alloc: Global, shelf: &mut S, k: u32) -> Result<Layer,
     requires { k < S.count shelf.old }
     ensures found { IfOk result (λ layer. IfSome (S.files shelf.old) (λ files.
         LayerOf (file_at files k) layer.head layer.rows)) }
+    ensures sound { IfOk result (λ layer. IsLayerIndex layer.head layer.rows) }
     ensures refused { IfErr result (IsFileRefusal (S.files shelf.old) k) }
     ensures same { SameFiles S.files S.count shelf.old shelf.new }
     ensures cause { Charges S.faults shelf.old shelf.new (IsErrOf result Refusal.ShelfFault) }
 {
     match read_layer(alloc, shelf, k) {
-        Ok(layer) => Ok(layer),
+        Ok(layer) => {
+            let _rows = layer.rows();
+            Ok(layer)
+        }
         Err(fault) => Err(layer_refusal(k, fault)),
     }
 }
@@ -54,6 +59,7 @@ pub fn read_layers<S: Shelf>(alloc: Global, shelf: &mut S) -> Result<Vec<Layer>,
     ensures count { IfOk result (λ layers. length layers.items ≡ S.count shelf.old) }
     ensures few { IfOk result (λ layers. length layers.items < 2 ^ 32) }
     ensures told { IfOk result (λ layers. IfSome (S.files shelf.old) (λ files. AreTold files layers.items)) }
+    ensures sound { IfOk result (λ layers. All (λ layer. IsLayerIndex layer.head layer.rows) layers.items) }
     ensures refused { IfErr result (AreFilesRefused (S.files shelf.old)) }
     ensures same { SameFiles S.files S.count shelf.old shelf.new }
     ensures cause { Charges S.faults shelf.old shelf.new (IsErrOf result Refusal.ShelfFault) }
@@ -79,6 +85,7 @@ pub fn read_stack<S: Shelf>(alloc: Global, shelf: &mut S) -> Result<Vec<Layer>, 
     ensures few { IfOk result (λ layers. length layers.items ≤ 255) }
     ensures told { IfOk result (λ layers. IfSome (S.files shelf.old) (λ files. AreTold files layers.items)) }
     ensures legal { IfOk result (λ layers. Legal (map (λ layer. layer.head) layers.items)) }
+    ensures sound { IfOk result (λ layers. All (λ layer. IsLayerIndex layer.head layer.rows) layers.items) }
     ensures refused { IfErr result (IsStackRefusal (S.files shelf.old) (S.count shelf.old)) }
     ensures empty { IsErrOf result (Refusal.Stack Empty) ↔ (S.count shelf.old ≡ 0) }
     ensures same { SameFiles S.files S.count shelf.old shelf.new }

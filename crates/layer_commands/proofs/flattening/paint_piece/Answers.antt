@@ -1,4 +1,5 @@
-use Rattle.std.proofs.Common.{◌≡◌, ℕ, ◌*◌, ◌/◌, ◌≤◌, List, length, drop, refl, sym, ap, ◌∙◌, arith, rules}
+use Rattle.std.proofs.Common.{◌≡◌, ℕ, ◌*◌, ◌/◌, ◌≤◌, List, length, drop, refl, sym, ap, ◌∙◌, arith}
+use Rattle.std.proofs.lemmas.List.{length-replicate}
 use Rattle.layer_shelf.specs.Shelves.{file_at}
 use Rattle.sealed_layer.specs.Layers.{LayerIndex}
 use Rattle.sealed_layer.specs.Painting.{Paints}
@@ -25,8 +26,9 @@ loop-k-init g c = record {
   files = refl;
   count = refl;
   faults = refl;
-  painted = IfSome-each (g.S.Shelf.files c.args.shelf.now) (λ files e. search rules);
-  size = omega arith;
+  painted = IfSome-each (g.S.Shelf.files c.args.shelf.now) (λ files e.
+      ap (λ (old : List ℕ). overlaid files c.args.layers.now c.args.at c.args.count old) c.requires.blank);
+  size = ap length c.requires.blank ∙ length-replicate {A = ℕ} (512 * c.args.count) 0;
 }
 
 pub loop-k-preserved : goal.loop-k-preserved

@@ -1,4 +1,4 @@
-use Rattle.std.proofs.Common.{ℕ, ◌+◌, ◌*◌, ◌≤◌, take, ◌∙◌, arith, rules}
+use Rattle.std.proofs.Common.{ℕ, ◌+◌, ◌*◌, ◌≤◌, take, ◌∙◌, arith}
 use Rattle.std.specs.Io.KnownBytes.{Appends}
 use Rattle.std.proofs.lemmas.Result.{err_from_is_err_and}
 use Rattle.byte_ports.specs.Ports.{AppendsFront}
@@ -41,7 +41,7 @@ loop-at-preserved g c =
           (IfSome-at (g.S.Shelf.files c.args.shelf.now) (λ files. Appends first second (take (512 * at) (told_flat n files layers))) files e c.loop-at.invariant.written)
           (IfSome-at (g.S.Shelf.files c.loop-at.shelf) (λ files. Appends second third (flat_part files layers at count)) files (c.loop-at.invariant.files ∙ e) c.in_ok-write_piece.ensures.done));
       within = within;
-      room = search rules;
+      room = omega (arith, c.loop-at.invariant.room, c.write_piece.ensures.room);
       files = c.write_piece.ensures.same.files ∙ c.loop-at.invariant.files;
       count = c.write_piece.ensures.same.count ∙ c.loop-at.invariant.count;
       shelf_faults = calm_value g.S.Shelf.faults c.loop-at.shelf c.write_piece.new.shelf c.in_ok-write_piece.field-0 ShelfFault c.in_ok-write_piece.ensures.shelf_cause ∙ c.loop-at.invariant.shelf_faults;

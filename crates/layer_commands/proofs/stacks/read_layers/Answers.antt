@@ -3,7 +3,9 @@ use Rattle.std.specs.Prelude.{Option}
 use Rattle.std.proofs.lemmas.Result.{err_from_is_err_and}
 use Rattle.layer_shelf.specs.Shelves.{file_at}
 use Rattle.flat_image.specs.LayerFiles.{LayerOf}
-use Rattle.sealed_layer.specs.Layers.{LayerIndex}
+use Rattle.std.specs.List.{All}
+use Rattle.std.proofs.lemmas.List.Elements.{All-push}
+use Rattle.sealed_layer.specs.Layers.{LayerIndex, IsLayerIndex}
 use Rattle.layer_commands.specs.Flattening.{AreTold}
 use Rattle.layer_commands.specs.Reading.{IsFileRefusal}
 use Rattle.sector_extent.specs.CauseLaws.{calm_value}
@@ -37,6 +39,7 @@ loop-k-preserved g c =
     let layers : List LayerIndex = c.loop-k.layers.items in
     let pushed : c.push.new.self.items ≡ layers ++ layer ∷ [] = c.in_ok-push.ensures.items in
     let within : k < count = omega arith in
+    let Sound : LayerIndex → Type 0 = λ one. IsLayerIndex one.head one.rows in
     record {
       told = IfSome-each files (λ list e.
           let whole : length list ≡ count = IfSome-at files (λ list. length list ≡ count) list e (g.met.S.Shelf.counted c.args.shelf.now) in
@@ -44,6 +47,8 @@ loop-k-preserved g c =
           let one : LayerOf (file_at list k) layer.head layer.rows = IfSome-at (g.S.Shelf.files c.loop-k.shelf) (λ list. LayerOf (file_at list k) layer.head layer.rows) list (c.loop-k.invariant.files ∙ e) c.in_ok-layer.ensures.found in
           let here : k < length list = omega (arith, whole, within) in
           subst (λ items. AreTold (take (k + 1) list) items) (sym pushed) (told_more list layers k layer here before one));
+      sound = subst (λ (items : List LayerIndex). All Sound items) (sym pushed)
+          (All-push Sound layers layer c.loop-k.invariant.sound c.in_ok-layer.ensures.sound);
       size = let long = length-append layers (layer ∷ []) in let size = c.loop-k.invariant.size in ap length pushed ∙ omega (arith, long, size);
       files = c.read_one.ensures.same.files ∙ c.loop-k.invariant.files;
       count = c.read_one.ensures.same.count ∙ c.loop-k.invariant.count;
