@@ -232,7 +232,8 @@ ImageCause command before now disk disk_now refused.SinkFault =
     (before.sink_faults < now.sink_faults) × ActsAll command before now disk disk_now
 ImageCause command before now disk disk_now refused.Memory =
     IsPartFed command before now × (Untouched before now disk disk_now ⊎ OpenedOnly command before now disk disk_now)
-ImageCause command before now disk disk_now other = ⊥
+ImageCause command before now disk disk_now refused.Usage = ⊥
+ImageCause command before now disk disk_now refused.NoLayer = ⊥
 
 -- the same of any refusal: another cause, or that the disk holds no image over the layers
 abbrev pub CommandCause : Command → Ports → Ports → DiskPort → DiskPort → ImageRefusal → Type 0

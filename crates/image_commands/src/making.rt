@@ -1,6 +1,7 @@
 //! Makes an image over the layers of a shelf.
-ghost use Rattle.std.specs.Prelude.{◌≡◌, ℕ, ◌≤◌, length, string_bytes, IfOk, IfErr, IfSome, MatchResult};
+ghost use Rattle.std.specs.Prelude.{◌≡◌, ℕ, ◌≤◌, length, All, string_bytes, IfOk, IfErr, IfSome, MatchResult};
 ghost use Rattle.lsmt_header.specs.Blocks.{IsSize};
+ghost use Rattle.sealed_layer.specs.Layers.{IsLayerIndex};
 ghost use Rattle.image_core.specs.Loading.{AreStackOrNone};
 ghost use Rattle.image_core.specs.Creating.{AreLegal};
 ghost use Rattle.image_core.specs.Seen.{seen, view, faults_in};
@@ -17,7 +18,7 @@ use block_disk::Disk;
 use image_core::{CreateFault, Image, LayerList};
 use layer_commands::Refusal;
 use layer_shelf::Shelf;
-use sealed_layer::{Layer, layers_law};
+use sealed_layer::Layer;
 use std::alloc::Global;
 
 /// The sectors of a layer.
@@ -32,6 +33,7 @@ fn layer_size(layer: &Layer) -> u64
 /// The size of a new image over these layers: the one that was asked for, or that of the uppermost.
 fn size_over(asked: Option<u64>, layers: &[Layer]) -> Result<u64, Refusal>
     requires stack { AreStackOrNone layers.now }
+    requires sound { All (λ layer. IsLayerIndex layer.head layer.rows) layers.now }
     requires size { IfSome asked IsSize }
     ensures size { IfOk result IsSize }
     ensures legal { IfOk result (λ sectors. AreLegal sectors layers.now) }
@@ -39,7 +41,6 @@ fn size_over(asked: Option<u64>, layers: &[Layer]) -> Result<u64, Refusal>
         IsSizeFor asked (length layers.now) (upper_sectors layers.now) sectors) }
     ensures refused { IfErr result (SizeCause asked layers.now) }
 {
-    layers_law(layers);
     let Some(upper) = layers.last() else {
         return match asked {
             Some(sectors) => Ok(sectors),

@@ -1,8 +1,9 @@
 //! Opens the image on a disk over the layers of a shelf.
-ghost use Rattle.std.specs.Prelude.{◌≡◌, ◌<◌, ◌≤◌, ◌^◌, length, IfOk, IfErr, IfSome, IsErrOf, OnErr, MatchResult};
+ghost use Rattle.std.specs.Prelude.{◌≡◌, ◌<◌, ◌≤◌, ◌^◌, length, All, IfOk, IfErr, IfSome, IsErrOf, OnErr, MatchResult};
 ghost use Rattle.sector_extent.specs.Causes.{Charges};
 ghost use Rattle.block_disk.specs.Claims.{Quiet};
 ghost use Rattle.layer_shelf.specs.Shelves.{SameFiles};
+ghost use Rattle.sealed_layer.specs.Layers.{IsLayerIndex};
 ghost use Rattle.image_core.specs.Loading.{AreStackOrNone};
 ghost use Rattle.image_core.specs.Seen.{seen, faults_in, disk_of};
 ghost use Rattle.layer_commands.specs.declared.refusal.Refusal.TheVariants as refused;
@@ -26,6 +27,7 @@ pub fn read_lowers<S: Shelf>(alloc: Global, shelf: &mut S) -> Result<Vec<Layer>,
     ensures few { IfOk result (λ layers. length layers.items ≤ 255) }
     ensures told { IfOk result (λ layers. IfSome (S.files shelf.old) (λ files. AreTold files layers.items)) }
     ensures legal { IfOk result (λ layers. AreStackOrNone layers.items) }
+    ensures sound { IfOk result (λ layers. All (λ layer. IsLayerIndex layer.head layer.rows) layers.items) }
     ensures refused { IfErr result (IsStackRefusal (S.files shelf.old) (S.count shelf.old)) }
     ensures some { OnErr result (0 < S.count shelf.old) }
     ensures same { SameFiles S.files S.count shelf.old shelf.new }

@@ -14,12 +14,12 @@ returns-then-sectors-own-clause-refused c =
 
 pub returns-else-sectors-own-clause-legal : goal.returns-else-sectors-own-clause-legal
 returns-else-sectors-own-clause-legal c =
-    legal-size c.args.layers.now c.in-Some.upper.now c.in-Some-asked-2.sectors c.layers_law.ensures (sym c.in-Some.ensures.value)
+    legal-size c.args.layers.now c.in-Some.upper.now c.in-Some-asked-2.sectors c.requires.sound (sym c.in-Some.ensures.value)
     (omega (arith, c.layer_size-own.ensures.is, c.if-sectors-own.false)) c.requires.stack
 
 pub returns-in-None-asked-clause-legal : goal.returns-in-None-asked-clause-legal
 returns-in-None-asked-clause-legal c =
-    legal-size c.args.layers.now c.in-Some.upper.now c.layer_size-own.result c.layers_law.ensures (sym c.in-Some.ensures.value)
+    legal-size c.args.layers.now c.in-Some.upper.now c.layer_size-own.result c.requires.sound (sym c.in-Some.ensures.value)
     (omega (arith, c.layer_size-own.ensures.is)) c.requires.stack
 
 pub returns-in-None-asked-clause-asked : goal.returns-in-None-asked-clause-asked
