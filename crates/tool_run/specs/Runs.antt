@@ -17,7 +17,7 @@ use Rattle.layer_commands.specs.declared.refusal.Refusal.TheVariants as refused
 use Rattle.layer_commands.specs.Texts.{line_of}
 use Rattle.layer_commands.specs.Ports.{Ports, Notes, ports_of, notes_of}
 use Rattle.layer_commands.specs.Prints.{Prints, read_by}
-use Rattle.layer_commands.specs.Causes.{PrintsAll, Cause, IsNoted, AreCharged, IsCalm, IsMissing, most_taken}
+use Rattle.layer_commands.specs.Causes.{PrintsAll, Cause, IsNoted, AreCharged, IsCalm, IsCounted, IsMissing, most_taken}
 use Rattle.image_commands.specs.declared.refusal.ImageRefusal.{ImageRefusal}
 use Rattle.image_commands.specs.declared.refusal.ImageRefusal.TheVariants.{Load, Other}
 use Rattle.image_commands.specs.ImageTexts.{image_text, image_code}
@@ -49,9 +49,11 @@ IsRun Sweep = ⊤
 IsRun (Make seed acts) = ⊥
 IsRun (Export connections) = ⊥
 
--- what a command over layers does: it prints, and leaves the disk as it was
+-- What a command over layers does: it prints, and leaves the disk as it was. The shelf has the layer, or layers for a stack, also
+-- where it does not tell its files.
 abbrev pub DoesPrint : Command → Ports → Ports → DiskPort → DiskPort → Type 0
-DoesPrint command before now disk disk_now = PrintsAll command before now × Quiet disk.state disk_now.state
+DoesPrint command before now disk disk_now =
+    PrintsAll command before now × Quiet disk.state disk_now.state × IsCounted command before.count (λ refusal. ⊥) ⊤
 
 -- the command did what it is for
 abbrev pub Succeeds : Command → Ports → Ports → DiskPort → DiskPort → Type 0
@@ -68,9 +70,11 @@ Succeeds Sweep before now disk disk_now = Does Sweep before now disk disk_now
 Succeeds (Make seed acts) before now disk disk_now = ⊥
 Succeeds (Export connections) before now disk disk_now = ⊥
 
--- the cause of a refusal of a command over layers, which leaves the disk as it was
+-- The cause of a refusal of a command over layers, which leaves the disk as it was; and that no layer, or no layers for a stack,
+-- are told as that, also where the shelf does not tell its files.
 abbrev pub PrintFails : Command → Ports → Ports → DiskPort → DiskPort → ImageRefusal → Type 0
-PrintFails command before now disk disk_now (Other refusal) = Cause command before now refusal × Quiet disk.state disk_now.state
+PrintFails command before now disk disk_now (Other refusal) =
+    Cause command before now refusal × Quiet disk.state disk_now.state × IsCounted command before.count (λ told. refusal ≡ told) ⊥
 PrintFails command before now disk disk_now (Load fault) = ⊥
 
 -- the cause of a refusal, and what stands after it
