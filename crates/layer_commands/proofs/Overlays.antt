@@ -6,6 +6,7 @@ use Rattle.std.proofs.lemmas.List.{take-append-le, drop-append-le, take_at, drop
 use Rattle.std.proofs.lemmas.List.Elements.{All-nil, All-cons, All-head, All-tail}
 use Rattle.seg_mapping.specs.declared.Row.{Row}
 use Rattle.lsmt_header.specs.declared.head.Head.{Head}
+use Rattle.flat_image.proofs.SpelledRows.{index_within}
 use Rattle.flat_image.specs.Sheets.{Cell, Hole, IsCell, zero_sector, painted, paint, bytes_of, image_in}
 use Rattle.flat_image.specs.RowCells.{cell_of, sheet_of}
 use Rattle.flat_image.specs.LayerFiles.{LayerOf}
@@ -25,12 +26,9 @@ step_of m = omega arith
 pub over_run : (file : List ℕ) (rows : List Row) (at count : ℕ) (old : List ℕ) → layer_over file rows at count old ≡ run (cell_of file rows) at count old
 over_run file rows at count old = bytes_of-paint (cell_of file rows) at count old
 
-pub index_inside : (file : List ℕ) (head : Head) (rows : List Row) → LayerOf file head rows → head.index_at ≤ length file
-index_inside file head rows layer = let end = layer.index.end in omega (arith, end)
-
 -- each cell of a layer is whole
 pub told_cells : (file : List ℕ) (head : Head) (rows : List Row) → LayerOf file head rows → (p : ℕ) → IsCell (cell_of file rows p)
-told_cells file head rows layer p = whole_cells file head.sectors head.index_at 0 rows layer.sound (index_inside file head rows layer) p
+told_cells file head rows layer p = whole_cells file head.sectors head.index_at 0 rows layer.sound (index_within file head rows layer) p
 
 -- only the sectors of a run are looked at
 run-append : (f : ℕ → Cell) (at n : ℕ) (xs ys : List ℕ) → length xs ≡ 512 * n → run f at n (xs ++ ys) ≡ run f at n xs

@@ -1,7 +1,6 @@
 -- What the commands over a shelf have written, and why they are refused.
 use Rattle.std.proofs.Common.{◌≡◌, ℕ, ◌<◌, false, List, [], length, map, sym, ap, ◌∙◌, subst, arith, inl, inr}
 use Rattle.std.specs.Prelude.{Option, None, ◌⊎◌, IfSome, Result, Ok, Err, IfErr, OnErr}
-use Rattle.std.specs.Io.KnownBytes.{Appends}
 use Rattle.std.proofs.KnownBytes.{Consumes-nil, Keeps-refl}
 use Rattle.byte_ports.specs.Ports.{AppendsFront}
 use Rattle.layer_shelf.specs.Shelves.{file_at}
@@ -15,7 +14,8 @@ use Rattle.tool_setup.specs.declared.command.Command.TheVariants.{Flatten, Info,
 use Rattle.layer_commands.specs.declared.refusal.Refusal.{Refusal}
 use Rattle.layer_commands.specs.declared.refusal.Refusal.TheVariants as refused
 use Rattle.layer_commands.specs.Reports.{info_lines, stack_lines}
-use Rattle.layer_commands.specs.Causes.{Cause, PrintsAll, PrintsFront}
+use Rattle.layer_commands.specs.Prints.{Prints}
+use Rattle.layer_commands.specs.Causes.{Cause, PrintsFront}
 use Rattle.layer_commands.specs.Ports.{Ports, TakesAtMost, shelf_ports}
 use Rattle.layer_commands.specs.Flattening.{AreTold, told_flat, upper_sectors}
 use Rattle.layer_commands.specs.Reading.{IsFileRefusal, IsStackRefusal}
@@ -67,59 +67,31 @@ sink_refused (Ok value) command before now old new text is front prints = tt
 sink_refused (Err refusal) command before now old new text is front prints =
     subst (λ (refusal : Refusal). Cause command before now refusal) (sym is) (prints front)
 
-pub flatten_done : (files files' : Option (List (List ℕ))) (layers : List LayerIndex) (n count count' before now : ℕ) (old new : Option (List ℕ)) (s s' : ℕ)
+-- Of what a command prints where it succeeds that was written which the relation says: all of it, or a front.
+pub flatten_told : (W : List ℕ → Type 0) (files : Option (List (List ℕ))) (layers : List LayerIndex) (n : ℕ)
     → IfSome files (λ list. AreTold list layers) → Legal (map (λ layer. layer.head) layers) → n ≡ upper_sectors layers
-    → IfSome files (λ list. Appends old new (told_flat n list layers)) → PrintsAll (Flatten false) (shelf_ports files count before old s) (shelf_ports files' count' now new s')
-flatten_done files files' layers n count count' before now old new s s' told legal size written =
+    → IfSome files (λ list. W (told_flat n list layers)) → IfSome files (λ list. (bytes : List ℕ) × Prints (Flatten false) list bytes × W bytes)
+flatten_told W files layers n told legal size written =
     IfSome-each files (λ list e.
     let are : AreTold list layers = IfSome-at files (λ list. AreTold list layers) list e told in (
       told_flat n list layers,
       (layers_of list layers, told_layers list layers are, subst Legal (sym (told_heads list layers are)) legal, sym (told_image n list layers are size)),
-      IfSome-at files (λ list. Appends old new (told_flat n list layers)) list e written,
+      IfSome-at files (λ list. W (told_flat n list layers)) list e written,
     ))
 
-pub stack_done : (files files' : Option (List (List ℕ))) (layers : List LayerIndex) (count count' before now : ℕ) (old new : Option (List ℕ)) (s s' : ℕ) (text : List ℕ)
+pub stack_told : (W : List ℕ → Type 0) (files : Option (List (List ℕ))) (layers : List LayerIndex) (text : List ℕ)
     → IfSome files (λ list. AreTold list layers) → Legal (map (λ layer. layer.head) layers) → text ≡ stack_lines 0 (map (λ layer. layer.head) layers)
-    → Appends old new text → PrintsAll Stack (shelf_ports files count before old s) (shelf_ports files' count' now new s')
-stack_done files files' layers count count' before now old new s s' text told legal is written =
+    → W text → IfSome files (λ list. (bytes : List ℕ) × Prints Stack list bytes × W bytes)
+stack_told W files layers text told legal is written =
     IfSome-each files (λ list e.
     let are : AreTold list layers = IfSome-at files (λ list. AreTold list layers) list e told in
     let heads = told_heads list layers are in
     (text, (layers_of list layers, told_layers list layers are, subst Legal (sym heads) legal, is ∙ ap (λ (heads : List Head). stack_lines 0 heads) (sym heads)), written))
 
-pub info_done : (files files' : Option (List (List ℕ))) (layer : LayerIndex) (k count count' before now : ℕ) (old new : Option (List ℕ)) (s s' : ℕ) (text : List ℕ)
+pub info_told : (W : List ℕ → Type 0) (files : Option (List (List ℕ))) (layer : LayerIndex) (k count : ℕ) (text : List ℕ)
     → IfSome files (λ list. length list ≡ count) → k < count → IfSome files (λ list. LayerOf (file_at list k) layer.head layer.rows) → text ≡ info_lines k layer.head
-    → Appends old new text → PrintsAll (Info k) (shelf_ports files count before old s) (shelf_ports files' count' now new s')
-info_done files files' layer k count count' before now old new s s' text counted within of is written =
-    IfSome-each files (λ list e.
-    let whole : length list ≡ count = IfSome-at files (λ list. length list ≡ count) list e counted in
-    let here : LayerOf (file_at list k) layer.head layer.rows = IfSome-at files (λ list. LayerOf (file_at list k) layer.head layer.rows) list e of in
-    (text, (record { head = layer.head; sheet = _ }, omega (arith, whole), one_file (file_at list k) layer here, is), written))
-
-pub flatten_front : (files files' : Option (List (List ℕ))) (layers : List LayerIndex) (n count count' before now : ℕ) (old new : Option (List ℕ)) (s s' : ℕ)
-    → IfSome files (λ list. AreTold list layers) → Legal (map (λ layer. layer.head) layers) → n ≡ upper_sectors layers
-    → IfSome files (λ list. AppendsFront old new (told_flat n list layers)) → PrintsFront (Flatten false) (shelf_ports files count before old s) (shelf_ports files' count' now new s')
-flatten_front files files' layers n count count' before now old new s s' told legal size written =
-    IfSome-each files (λ list e.
-    let are : AreTold list layers = IfSome-at files (λ list. AreTold list layers) list e told in (
-      told_flat n list layers,
-      (layers_of list layers, told_layers list layers are, subst Legal (sym (told_heads list layers are)) legal, sym (told_image n list layers are size)),
-      IfSome-at files (λ list. AppendsFront old new (told_flat n list layers)) list e written,
-    ))
-
-pub stack_front : (files files' : Option (List (List ℕ))) (layers : List LayerIndex) (count count' before now : ℕ) (old new : Option (List ℕ)) (s s' : ℕ) (text : List ℕ)
-    → IfSome files (λ list. AreTold list layers) → Legal (map (λ layer. layer.head) layers) → text ≡ stack_lines 0 (map (λ layer. layer.head) layers)
-    → AppendsFront old new text → PrintsFront Stack (shelf_ports files count before old s) (shelf_ports files' count' now new s')
-stack_front files files' layers count count' before now old new s s' text told legal is written =
-    IfSome-each files (λ list e.
-    let are : AreTold list layers = IfSome-at files (λ list. AreTold list layers) list e told in
-    let heads = told_heads list layers are in
-    (text, (layers_of list layers, told_layers list layers are, subst Legal (sym heads) legal, is ∙ ap (λ (heads : List Head). stack_lines 0 heads) (sym heads)), written))
-
-pub info_front : (files files' : Option (List (List ℕ))) (layer : LayerIndex) (k count count' before now : ℕ) (old new : Option (List ℕ)) (s s' : ℕ) (text : List ℕ)
-    → IfSome files (λ list. length list ≡ count) → k < count → IfSome files (λ list. LayerOf (file_at list k) layer.head layer.rows) → text ≡ info_lines k layer.head
-    → AppendsFront old new text → PrintsFront (Info k) (shelf_ports files count before old s) (shelf_ports files' count' now new s')
-info_front files files' layer k count count' before now old new s s' text counted within of is written =
+    → W text → IfSome files (λ list. (bytes : List ℕ) × Prints (Info k) list bytes × W bytes)
+info_told W files layer k count text counted within of is written =
     IfSome-each files (λ list e.
     let whole : length list ≡ count = IfSome-at files (λ list. length list ≡ count) list e counted in
     let here : LayerOf (file_at list k) layer.head layer.rows = IfSome-at files (λ list. LayerOf (file_at list k) layer.head layer.rows) list e of in

@@ -12,7 +12,7 @@ use Rattle.sealed_layer.specs.Layers.{LayerIndex}
 use Rattle.layer_commands.specs.Flattening.{AreTold, FitIn, told_flat, upper_sectors}
 use Rattle.layer_commands.proofs.Pieces.{IfSome-at}
 use Rattle.layer_commands.proofs.ToldLayers.{stack_fits}
-use Rattle.layer_commands.proofs.ShelfCommands.{flatten_done, flatten_front, flat_refused}
+use Rattle.layer_commands.proofs.ShelfCommands.{flatten_told, flat_refused}
 use Rattle.layer_commands.proofs.commands.flatten_shelf.Goals as goal
 
 pub returns-clause-done : goal.returns-clause-done
@@ -27,9 +27,7 @@ returns-clause-done g c =
     let F : Option (List (List ℕ)) → Type 0 = λ o. IfSome o (λ list. Appends old new (told_flat c.stack_sectors-sectors.result list stack)) in
     on_ok_weaker c.write_flat.result
     (λ (written : F (g.S.Shelf.files c.read_stack.new.shelf)).
-    flatten_done files (g.S.Shelf.files c.write_flat.new.shelf) stack c.stack_sectors-sectors.result (g.S.Shelf.count c.args.shelf.now) (g.S.Shelf.count c.write_flat.new.shelf)
-    (g.S.Shelf.faults c.args.shelf.now) (g.S.Shelf.faults c.write_flat.new.shelf) old new (g.B.Sink.faults c.args.out.now) (g.B.Sink.faults c.write_flat.new.out)
-    told legal c.stack_sectors-sectors.ensures.value (subst F c.read_stack.ensures.same.files written))
+    flatten_told (Appends old new) files stack c.stack_sectors-sectors.result told legal c.stack_sectors-sectors.ensures.value (subst F c.read_stack.ensures.same.files written))
     c.write_flat.ensures.done
 
 pub returns-clause-refused : goal.returns-clause-refused
@@ -46,9 +44,7 @@ returns-clause-refused g c =
     (Cause (Flatten false) (shelf_ports files (g.S.Shelf.count c.args.shelf.now) (g.S.Shelf.faults c.args.shelf.now) old (g.B.Sink.faults c.args.out.now))
     (shelf_ports (g.S.Shelf.files c.write_flat.new.shelf) (g.S.Shelf.count c.write_flat.new.shelf) (g.S.Shelf.faults c.write_flat.new.shelf) new (g.B.Sink.faults c.write_flat.new.out)))
     (λ refusal is written only.
-    let front = flatten_front files (g.S.Shelf.files c.write_flat.new.shelf) stack c.stack_sectors-sectors.result (g.S.Shelf.count c.args.shelf.now) (g.S.Shelf.count c.write_flat.new.shelf)
-    (g.S.Shelf.faults c.args.shelf.now) (g.S.Shelf.faults c.write_flat.new.shelf) old new (g.B.Sink.faults c.args.out.now) (g.B.Sink.faults c.write_flat.new.out)
-    told legal c.stack_sectors-sectors.ensures.value (subst F c.read_stack.ensures.same.files written) in
+    let front = flatten_told (AppendsFront old new) files stack c.stack_sectors-sectors.result told legal c.stack_sectors-sectors.ensures.value (subst F c.read_stack.ensures.same.files written) in
     flat_refused files (g.S.Shelf.files c.write_flat.new.shelf) (g.S.Shelf.count c.args.shelf.now) (g.S.Shelf.count c.write_flat.new.shelf)
     (g.S.Shelf.faults c.args.shelf.now) (g.S.Shelf.faults c.write_flat.new.shelf) old new (g.B.Sink.faults c.args.out.now) (g.B.Sink.faults c.write_flat.new.out) _ refusal front only)
     c.write_flat.ensures.front c.write_flat.ensures.only
