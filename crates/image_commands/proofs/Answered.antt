@@ -2,7 +2,7 @@
 use Rattle.std.proofs.Common.{◌≡◌, ◌≢◌, ℕ, sym, ap, ◌∙◌, subst, arith}
 use Rattle.std.specs.Result.{IsErrOf}
 use Rattle.sector_extent.specs.Causes.{Charges}
-use Rattle.std.specs.Prelude.{Result, Ok, Err, OnOk, OnErr, IfErr}
+use Rattle.std.specs.Prelude.{Result, Ok, Err, OnOk, OnErr, IfOk, IfErr}
 use Rattle.layer_commands.specs.declared.refusal.Refusal.{Refusal}
 use Rattle.layer_commands.proofs.Charged.{charges_as}
 use Rattle.image_commands.specs.declared.refusal.ImageRefusal.{ImageRefusal}
@@ -62,3 +62,7 @@ unfed command before now disk disk_now (Err x) still cause is =
 pub ok-from : {T E : Type 0} (r : Result T E) (P Q : Type 0) → (P → Q) → OnOk r P → OnOk r Q
 ok-from (Ok value) P Q f p = f p
 ok-from (Err fault) P Q f p = tt
+
+pub value-from : {T E : Type 0} (r : Result T E) (P Q : T → Type 0) → ((value : T) → P value → Q value) → IfOk r P → IfOk r Q
+value-from (Ok value) P Q f p = f value p
+value-from (Err fault) P Q f p = tt

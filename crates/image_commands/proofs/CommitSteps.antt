@@ -1,6 +1,6 @@
 -- The steps of a commit of an image.
 use Rattle.std.proofs.Common.{◌≡◌, ◌≢◌, ℕ, ◌<◌, Bool, IsTrue, List, [], ◌∷◌, ◌++◌, length, map, refl, sym, ap, ◌∙◌, subst, arith, inl, inr, append-nil, length-append}
-use Rattle.std.specs.Prelude.{Option, Some, None, Result, Ok, Err, OnOk, IfErr, slice_index_or}
+use Rattle.std.specs.Prelude.{Option, Some, None, Result, Ok, Err, OnOk, OnErr, IfErr, slice_index_or}
 use Rattle.std.specs.Result.{IsErrOf}
 use Rattle.block_disk.specs.DiskState.{DiskState}
 use Rattle.block_disk.specs.Claims.{Quiet}
@@ -191,7 +191,7 @@ adds-before acts one two three adds same = record {
   stands = λ base history stands. let a = adds.stands base history stands in (a.0, a.1, same base (history ++ a.0) a.2);
 }
 
-module _ (uuid : List ℕ) (one two three four five : Seen) (free : IsFree uuid (pending_in (parts_view one.parts))) (froze : Adds (entries (freeze_acts uuid (pending_in (parts_view one.parts)))) one two) where
+module _ (uuid : List ℕ) (one two three four : Seen) (free : IsFree uuid (pending_in (parts_view one.parts))) (froze : Adds (entries (freeze_acts uuid (pending_in (parts_view one.parts)))) one two) where
   abbrev frozen : History
   frozen = entries (freeze_acts uuid (pending_in (parts_view one.parts)))
 
@@ -213,12 +213,22 @@ module _ (uuid : List ℕ) (one two three four five : Seen) (free : IsFree uuid 
     pub seal-stopped : Adds (fault_of (Uuid uuid)) three four → one.faults < four.faults → CommitCause uuid one four refused.DiskFault
     seal-stopped failed rose = (free, rose, (frozen, begins, inr (Uuid uuid, inr refl, adds-joined frozen (fault_of (Uuid uuid)) one three four copied failed)))
 
+    -- and so where that is its answer
+    pub seal-answered : (r : Result ℕ Refusal) → IfErr r (λ refusal. refusal ≡ refused.DiskFault) → OnErr r (Adds (fault_of (Uuid uuid)) three four)
+        → (IsErrOf r refused.DiskFault → one.faults < four.faults) → IfErr r (λ refusal. CommitCause uuid one four refusal)
+    seal-answered (Ok epoch) is failed rose = tt
+    seal-answered (Err refusal) is failed rose =
+        subst (λ (x : Refusal). CommitCause uuid one four x) (sym is) (seal-stopped failed (rose (ap Err is)))
+
     pub sealed-all : Adds (entries (Seal uuid ∷ [])) three four → Adds all one four
     sealed-all sealed = subst (λ (h : History). Adds h one four) (commit-split uuid (pending_in (parts_view one.parts))) (adds-joined frozen (entries (Seal uuid ∷ [])) one three four copied sealed)
 
-    -- the size of the file was not told
-    pub size-stopped : Adds (entries (Seal uuid ∷ [])) three four → IsAsBefore four five → one.faults < five.faults → CommitCause uuid one five refused.DiskFault
-    size-stopped sealed still rose = (free, rose, (all, record { rest = []; is = sym (append-nil all) }, inl (adds-before all one four five (sealed-all sealed) still)))
+-- the size of the file was not told
+pub size-stopped : (uuid : List ℕ) (one four five : Seen) → IsFree uuid (pending_in (parts_view one.parts)) → Adds (entries (commit_acts uuid (pending_in (parts_view one.parts)))) one four
+    → IsAsBefore four five → one.faults < five.faults → CommitCause uuid one five refused.DiskFault
+size-stopped uuid one four five free sealed still rose =
+    let all : History = entries (commit_acts uuid (pending_in (parts_view one.parts))) in
+    (free, rose, (all, record { rest = []; is = sym (append-nil all) }, inl (adds-before all one four five sealed still)))
 
 -- ---- what a freeze is refused as
 

@@ -119,6 +119,7 @@ fn seal_whole<D: Disk>(image: &mut Image<D>, uuid: [u8; 16]) -> Result<u32, Refu
     ensures epoch { IfOk result (λ epoch. epoch ≡ length (view image.old).committed) }
     ensures standing { OnOk result (IsImage (seen D.Disk image.new)) }
     ensures more { IfOk result (λ epoch. epoch < length (view image.new).committed) }
+    ensures stepped { OnOk result ((view image.new).steps ≤ (view image.old).steps + 1) }
     ensures failed { OnErr result (Adds (fault_of (Uuid uuid)) (seen D.Disk image.old) (seen D.Disk image.new)) }
     ensures refused { IfErr result (λ refusal. refusal ≡ Refusal.DiskFault) }
     ensures cause { Charges (faults_in D.Disk) image.old image.new (IsErrOf result Refusal.DiskFault) }
@@ -128,6 +129,31 @@ fn seal_whole<D: Disk>(image: &mut Image<D>, uuid: [u8; 16]) -> Result<u32, Refu
         Err(SealFault::Failed) => Err(Refusal::DiskFault),
         Err(SealFault::NotPending(_)) | Err(SealFault::NotWhole { .. }) => unreachable!(),
     }
+}
+
+/// Commits the top as a layer with this uuid, and answers its epoch. It goes on where that commit is in
+/// progress.
+pub fn commit_whole<D: Disk>(
+    alloc: Global,
+    image: &mut Image<D>,
+    uuid: [u8; 16],
+) -> Result<u32, Refusal>
+    requires standing { IsImage (seen D.Disk image.old) }
+    requires named { uuid ≢ nil }
+    requires steps { (view image.old).steps < 2 ^ 61 }
+    ensures free { OnOk result (IsFree uuid (pending_in (view image.old))) }
+    ensures adds { OnOk result (Adds (entries (commit_acts uuid (pending_in (view image.old))))
+        (seen D.Disk image.old) (seen D.Disk image.new)) }
+    ensures epoch { IfOk result (λ epoch. epoch ≡ length (view image.old).committed) }
+    ensures more { IfOk result (λ epoch. epoch < length (view image.new).committed) }
+    ensures standing { OnOk result (IsImage (seen D.Disk image.new)) }
+    ensures stepped { OnOk result ((view image.new).steps ≤ (view image.old).steps + 2) }
+    ensures refused { IfErr result (CommitCause uuid (seen D.Disk image.old) (seen D.Disk image.new)) }
+    ensures cause { Charges (faults_in D.Disk) image.old image.new (IsErrOf result Refusal.DiskFault) }
+{
+    freeze_own(alloc, image, uuid)?;
+    copy_whole(image, uuid)?;
+    seal_whole(image, uuid)
 }
 
 /// Commits the top as a layer with this uuid, and answers its epoch and the bytes of its file. It goes on
@@ -148,9 +174,7 @@ pub fn commit_kept<D: Disk>(
     ensures refused { IfErr result (CommitCause uuid (seen D.Disk image.old) (seen D.Disk image.new)) }
     ensures cause { Charges (faults_in D.Disk) image.old image.new (IsErrOf result Refusal.DiskFault) }
 {
-    freeze_own(alloc, image, uuid)?;
-    copy_whole(image, uuid)?;
-    let epoch = seal_whole(image, uuid)?;
+    let epoch = commit_whole(alloc, image, uuid)?;
     match image.sealed_length(epoch) {
         Ok(size) => Ok(Committed { epoch, size }),
         Err(DiskFailed) => Err(Refusal::DiskFault),

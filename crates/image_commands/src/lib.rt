@@ -16,9 +16,12 @@ mod reading;
 mod refusal;
 mod sweeping;
 
+pub use committing::commit_whole;
+pub use copying::extent_of;
 pub use image_texts::push_image_refusal;
 pub use images::{
     commit_image, create_image, grow_image, read_image, sweep_image, write_image, zero_image,
 };
+pub use making::create_refusal;
 pub use opening::open_image;
 pub use refusal::{ImageRefusal, as_command, load_refusal};

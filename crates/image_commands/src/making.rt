@@ -60,7 +60,7 @@ fn size_over(asked: Option<u64>, layers: &[Layer]) -> Result<u64, Refusal>
 }
 
 /// What a fault of a creation is refused as.
-fn create_refusal(fault: CreateFault) -> Refusal
+pub fn create_refusal(fault: CreateFault) -> Refusal
     ensures { result ≡ create_refused_as fault }
 {
     match fault {

@@ -6,7 +6,7 @@ use Rattle.image_core.specs.declared.commit.SealFault.{SealFault}
 use Rattle.image_core.specs.Committing.{noted_seal}
 use Rattle.image_core.specs.Seen.{Goes, seen}
 use Rattle.image_commands.proofs.ImageAdds.{adds-act}
-use Rattle.image_commands.proofs.ChangeLaws.{standing-then}
+use Rattle.image_commands.proofs.ChangeLaws.{standing-then, steps-then}
 use Rattle.image_commands.proofs.CommitSteps.{seal-more}
 use Rattle.image_commands.proofs.committing.seal_whole.Goals as goal
 
@@ -29,6 +29,12 @@ returns-in-Ok-clause-more g c =
     c.args.image.now.parts c.seal.new.self.parts c.args.uuid c.in-Ok.ensures.goes c.requires.pending c.requires.standing in
     let epoch = c.in-Ok.ensures.epoch in
     omega (arith, more, epoch)
+
+pub returns-in-Ok-clause-stepped : goal.returns-in-Ok-clause-stepped
+returns-in-Ok-clause-stepped g c =
+    let e = steps-then g.D.Disk.tells (g.D.Disk.state c.args.image.now.disk) (g.D.Disk.state c.seal.new.self.disk) (g.D.Disk.faults c.args.image.now.disk) (g.D.Disk.faults c.seal.new.self.disk)
+    c.args.image.now.parts c.seal.new.self.parts (act.Seal c.args.uuid) c.in-Ok.ensures.goes c.requires.standing in
+    omega (arith, e)
 
 pub returns-in-Err-Failed-clause-failed : goal.returns-in-Err-Failed-clause-failed
 returns-in-Err-Failed-clause-failed g c =
