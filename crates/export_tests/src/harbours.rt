@@ -1,5 +1,5 @@
-//! A harbour in memory, and an export from it.
-ghost use Rattle.std.specs.Prelude.{◌≡◌, ◌≤◌, All, length, Some};
+//! Exports of parts in memory.
+ghost use Rattle.std.specs.Prelude.{◌≤◌, All, length};
 ghost use Rattle.lane_serve.specs.Listeners.{IsFresh};
 ghost use Rattle.lane_export.specs.Exporting.{HaveSameFiles};
 
@@ -9,7 +9,7 @@ use crate::signals::{CountedShelf, Signal};
 use block_disk::MemDisk;
 use byte_ports::{MemSink, MemSource, Sink, Source};
 use control_session::ControlEnd;
-use lane_export::{Harbour, LaneList, Parts, Settings, run_export};
+use lane_export::{LaneList, Parts, PartsHarbour, Settings, run_export};
 use lane_serve::{Listener, MemListener, TakenList};
 use layer_shelf::Shelf;
 use nbd_session::{Export, NameBytes, Served};
@@ -18,64 +18,6 @@ use std::alloc::{AllocError, Global};
 use std::sync::Wait;
 use std::test::Fail;
 use std::thread::Threads;
-
-/// Keeps the parts, and the end of the control that it got last.
-#[derive(Drop)]
-pub struct MemHarbour<S, L, A, B> {
-    settings: Settings,
-    export: Export,
-    parts: Option<Parts<MemDisk, S, L, A, B>>,
-    end: Option<ControlEnd>,
-}
-
-impl<
-    S: Shelf + Send + Drop,
-    L: Listener<E = Served> + Send + Drop,
-    A: Source + Send + Drop,
-    B: Sink + Send + Drop,
-> Harbour for MemHarbour<S, L, A, B> {
-    type D = MemDisk;
-
-    type S = S;
-
-    type L = L;
-
-    type A = A;
-
-    type B = B;
-
-    ghost set_to = { λ h. h.settings };
-
-    ghost exported = { λ h. h.export };
-
-    ghost home = { λ h. h.parts };
-
-    ghost end = { λ h. h.end };
-
-    fn settings(&self) -> Settings {
-        self.settings
-    }
-
-    fn export(&self) -> &Export {
-        &self.export
-    }
-
-    fn take(&mut self) -> Parts<MemDisk, S, L, A, B> {
-        match self.parts.take() {
-            Some(parts) => parts,
-            None => unreachable!(),
-        }
-    }
-
-    fn give_back(&mut self, parts: Parts<MemDisk, S, L, A, B>, control: Option<ControlEnd>)
-        ensures home { self.new.parts ≡ Some parts }
-        ensures same { (self.new.settings ≡ self.old.settings) × (self.new.export ≡ self.old.export) }
-        ensures end { self.new.end ≡ control }
-    {
-        self.parts = Some(parts);
-        self.end = control;
-    }
-}
 
 /// What an export leaves: its status, its parts, and how its control ended.
 #[derive(Drop)]
@@ -105,23 +47,23 @@ pub fn export_from<
     let Some(name) = NameBytes::from_vec(Vec::new(alloc)) else {
         return Err(Fail::new("a name"));
     };
-    let mut harbour = MemHarbour {
+    let mut harbour = PartsHarbour {
         settings: Settings { cache_blocks: 16 },
         export: Export {
             name,
             read_only: false,
         },
-        parts: Some(parts),
+        at_home: Some(parts),
         end: None,
     };
     let status = run_export(rt, alloc, &words, &mut harbour);
-    let MemHarbour {
+    let PartsHarbour {
         settings: _,
         export: _,
-        parts,
+        at_home,
         end,
     } = harbour;
-    match parts {
+    match at_home {
         Some(parts) => Ok(Exported {
             status: status.code,
             parts,
