@@ -66,3 +66,7 @@ ok-from (Err fault) P Q f p = tt
 pub value-from : {T E : Type 0} (r : Result T E) (P Q : T → Type 0) → ((value : T) → P value → Q value) → IfOk r P → IfOk r Q
 value-from (Ok value) P Q f p = f value p
 value-from (Err fault) P Q f p = tt
+
+-- a refusal is handed on as another call's
+pub err-same : {T U E : Type 0} (e f : E) → IsErrOf {T = T} {E = E} (Err e) f → IsErrOf {T = U} {E = E} (Err e) f
+err-same e f is = let same : e ≡ f = cc in ap (λ y. Err y) same

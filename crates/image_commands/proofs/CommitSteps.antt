@@ -1,5 +1,5 @@
 -- The steps of a commit of an image.
-use Rattle.std.proofs.Common.{◌≡◌, ◌≢◌, ℕ, ◌<◌, Bool, IsTrue, List, [], ◌∷◌, ◌++◌, length, map, refl, sym, ap, ◌∙◌, subst, arith, inl, inr, append-nil, length-append}
+use Rattle.std.proofs.Common.{◌≡◌, ◌≢◌, ℕ, ◌<◌, ◌≤◌, Bool, IsTrue, List, [], ◌∷◌, ◌++◌, length, map, refl, sym, ap, ◌∙◌, subst, arith, inl, inr, append-nil, length-append}
 use Rattle.std.specs.Prelude.{Option, Some, None, Result, Ok, Err, OnOk, OnErr, IfErr, slice_index_or}
 use Rattle.std.specs.Result.{IsErrOf}
 use Rattle.block_disk.specs.DiskState.{DiskState}
@@ -235,6 +235,19 @@ size-stopped uuid one four five free sealed still rose =
 only-failed : (fault : FreezeFault) → freeze_refused_as fault ≡ refused.DiskFault → fault ≡ freeze.Failed
 only-failed freeze.Failed e = refl
 only-failed other e = absurd (cc)
+
+-- a freeze of an image with 255 layers is refused as that, where no commit is in progress
+module _ (pending : Option (List ℕ)) (uuids : List (List ℕ)) (uuid : List ℕ) (none : pending ≡ None) (full : 255 ≤ length uuids) where
+  pub none-accepted : IsRefusedFreeze pending uuids uuid accepts → ⊥
+  none-accepted is = let e = is.many.0 (none, full) in cc
+
+  pub many-refused : (r : Result (Unit {0}) Refusal) (why : FreezeFault) → IsRefusedFreeze pending uuids uuid (refuses why) → OnOk r (why ≡ freeze.Busy uuid)
+      → IfErr r (λ refusal. refusal ≡ freeze_refused_as why) → IsErrOf r refused.TooManyLayers
+  many-refused (Ok value) why is own told = absurd (let e = is.many.0 (none, full) in let same : why ≡ freeze.TooMany = cc in cc)
+  many-refused (Err refusal) why is own told =
+      let e = is.many.0 (none, full) in
+      let same : why ≡ freeze.TooMany = cc in
+      ap Err (told ∙ ap freeze_refused_as same)
 
 -- the answer is the disk's fault just where the freeze failed
 pub to-failed : (r : Result (Unit {0}) Refusal) (fault : FreezeFault) (uuid : List ℕ) → OnOk r (fault ≡ freeze.Busy uuid) → IfErr r (λ refusal. refusal ≡ freeze_refused_as fault)

@@ -1,11 +1,11 @@
 //! Commits the top of an image as a layer.
-ghost use Rattle.std.specs.Prelude.{◌≡◌, ◌≢◌, ℕ, ◌+◌, ◌^◌, ◌<◌, ◌≤◌, ◌↔◌, [], ◌∷◌, length, false, Some, IsTrue, IfErr, IfOk, OnErr, OnOk, IsErrOf};
+ghost use Rattle.std.specs.Prelude.{◌≡◌, ◌≢◌, ℕ, ◌+◌, ◌^◌, ◌<◌, ◌≤◌, ◌↔◌, [], ◌∷◌, length, false, None, Some, IsTrue, IfErr, IfOk, OnErr, OnOk, IsErrOf};
 ghost use Rattle.sector_extent.specs.Causes.{Charges};
 ghost use Rattle.lsmt_header.specs.Blocks.{nil};
 ghost use Rattle.flat_image.specs.declared.act.Act.TheVariants.{Seal};
 ghost use Rattle.flat_image.specs.declared.act.Asked.TheVariants.{Uuid};
 ghost use Rattle.image_core.specs.Growing.{pending_in};
-ghost use Rattle.image_core.specs.Committing.{done_of, total_of};
+ghost use Rattle.image_core.specs.Committing.{done_of, total_of, uuids_in};
 ghost use Rattle.image_core.specs.Seen.{seen, view, faults_in, IsImage};
 ghost use Rattle.image_commands.specs.Images.{IsFree, commit_acts, entries, freeze_acts};
 ghost use Rattle.image_commands.specs.ImageSteps.{Adds, CommitCause, CommitTold, IsAsBefore, IsCommitSize, TellsCommit, fault, fault_of, freeze_refused_as};
@@ -55,6 +55,9 @@ fn freeze_own<D: Disk>(alloc: Global, image: &mut Image<D>, uuid: [u8; 16]) -> R
     ensures standing { OnOk result (IsImage (seen D.Disk image.new)) }
     ensures stepped { OnOk result ((view image.new).steps ≤ (view image.old).steps + 1) }
     ensures same { OnOk result (length (view image.new).committed ≡ length (view image.old).committed) }
+    // 255 layers are the most
+    ensures many { pending_in (view image.old) ≡ None → 255 ≤ length (uuids_in (view image.old))
+        → IsErrOf result Refusal.TooManyLayers }
     ensures refused { IfErr result (CommitCause uuid (seen D.Disk image.old) (seen D.Disk image.new)) }
     ensures cause { Charges (faults_in D.Disk) image.old image.new (IsErrOf result Refusal.DiskFault) }
 {
@@ -148,6 +151,9 @@ pub fn commit_whole<D: Disk>(
     ensures more { IfOk result (λ epoch. epoch < length (view image.new).committed) }
     ensures standing { OnOk result (IsImage (seen D.Disk image.new)) }
     ensures stepped { OnOk result ((view image.new).steps ≤ (view image.old).steps + 2) }
+    // 255 layers are the most
+    ensures many { pending_in (view image.old) ≡ None → 255 ≤ length (uuids_in (view image.old))
+        → IsErrOf result Refusal.TooManyLayers }
     ensures refused { IfErr result (CommitCause uuid (seen D.Disk image.old) (seen D.Disk image.new)) }
     ensures cause { Charges (faults_in D.Disk) image.old image.new (IsErrOf result Refusal.DiskFault) }
 {

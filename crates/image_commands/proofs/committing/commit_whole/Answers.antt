@@ -9,10 +9,10 @@ use Rattle.image_core.specs.Growing.{pending_in}
 use Rattle.image_core.specs.Seen.{Seen, seen, faults_in}
 use Rattle.layer_commands.specs.declared.refusal.Refusal.{Refusal}
 use Rattle.layer_commands.specs.declared.refusal.Refusal.TheVariants as refused
-use Rattle.layer_commands.proofs.Charged.{charges_on}
+use Rattle.layer_commands.proofs.Charged.{charges_on, no_fault}
 use Rattle.image_commands.specs.Images.{commit_acts, entries}
 use Rattle.image_commands.specs.ImageSteps.{Adds, CommitCause}
-use Rattle.image_commands.proofs.Answered.{ok-from, value-from}
+use Rattle.image_commands.proofs.Answered.{err-same, ok-from, value-from}
 use Rattle.image_commands.proofs.CommitSteps.{committed-still, copy-stopped, seal-answered, sealed-all}
 use Rattle.image_commands.proofs.committing.commit_whole.Goals as goal
 
@@ -80,3 +80,16 @@ returns-clause-cause g c =
     let same : two.faults ≡ old.faults = calm_value (faults_in g.D.Disk) c.args.image.now c.freeze_own.new.image c.in_ok-freeze_own.field-0 refused.DiskFault c.in_ok-freeze_own.ensures.cause in
     let still : three.faults ≡ two.faults = calm_value (faults_in g.D.Disk) c.freeze_own.new.image c.copy_whole.new.image c.in_ok-copy_whole.field-0 refused.DiskFault c.in_ok-copy_whole.ensures.cause in
     charges_on (faults_in g.D.Disk) c.args.image.now c.copy_whole.new.image c.seal_whole.new.image (IsErrOf c.seal_whole.result refused.DiskFault) (still ∙ same) c.seal_whole.ensures.cause
+
+pub returns-in_err-freeze_own-clause-many : goal.returns-in_err-freeze_own-clause-many
+returns-in_err-freeze_own-clause-many g c none full =
+    let p = err_from_is_err_and c.from_residual.result c.from_residual.ensures.1 in
+    rw (p.1, p.2) (err-same c.in_err-freeze_own.field-0.0 refused.TooManyLayers (c.in_err-freeze_own.ensures.many none full))
+
+pub returns-in_err-copy_whole-clause-many : goal.returns-in_err-copy_whole-clause-many
+returns-in_err-copy_whole-clause-many g c none full =
+    absurd (no_fault c.in_ok-freeze_own.field-0 refused.TooManyLayers (c.in_ok-freeze_own.ensures.many none full))
+
+pub returns-clause-many : goal.returns-clause-many
+returns-clause-many g c none full =
+    absurd (no_fault c.in_ok-freeze_own.field-0 refused.TooManyLayers (c.in_ok-freeze_own.ensures.many none full))

@@ -115,3 +115,12 @@ returns-in-Err-clause-cause g c =
     charges_as (faults_in g.D.Disk) c.args.image.now c.freeze.new.self (IsErrOf (steps.refuses c.in-Err.fault) freeze.Failed) (IsErrOf c.freeze_refusal.result refused.DiskFault)
     (steps.to-failed c.freeze_refusal.result c.in-Err.fault c.args.uuid c.freeze_refusal.ensures.own c.freeze_refusal.ensures.refused)
     (steps.from-failed c.freeze_refusal.result c.in-Err.fault c.freeze_refusal.ensures.refused) c.in-Err.ensures.cause
+
+pub returns-in-Ok-clause-many : goal.returns-in-Ok-clause-many
+returns-in-Ok-clause-many g c none full =
+    absurd (steps.none-accepted (pending_in (parts_view c.args.image.now.parts)) (uuids_in (parts_view c.args.image.now.parts)) c.args.uuid none full c.in-Ok.ensures.refused)
+
+pub returns-in-Err-clause-many : goal.returns-in-Err-clause-many
+returns-in-Err-clause-many g c none full =
+    steps.many-refused (pending_in (parts_view c.args.image.now.parts)) (uuids_in (parts_view c.args.image.now.parts)) c.args.uuid none full c.freeze_refusal.result c.in-Err.fault
+    c.in-Err.ensures.refused c.freeze_refusal.ensures.own c.freeze_refusal.ensures.refused
