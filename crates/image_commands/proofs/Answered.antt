@@ -70,3 +70,11 @@ value-from (Err fault) P Q f p = tt
 -- a refusal is handed on as another call's
 pub err-same : {T U E : Type 0} (e f : E) → IsErrOf {T = T} {E = E} (Err e) f → IsErrOf {T = U} {E = E} (Err e) f
 err-same e f is = let same : e ≡ f = cc in ap (λ y. Err y) same
+
+-- the disk's fault is not that there are too many layers
+pub not-both : {T : Type 0} (refusal : Refusal) → refusal ≡ refused.DiskFault → IsErrOf {T = T} (Err refusal) refused.TooManyLayers → ⊥
+not-both refusal is many = let same : refusal ≡ refused.TooManyLayers = cc in let unlike : refused.DiskFault ≡ refused.TooManyLayers = sym is ∙ same in cc
+
+pub not-many : {T : Type 0} (r : Result T Refusal) → IfErr r (λ refusal. refusal ≡ refused.DiskFault) → IsErrOf r refused.TooManyLayers → ⊥
+not-many (Ok value) is many = cc
+not-many (Err refusal) is many = not-both refusal is many

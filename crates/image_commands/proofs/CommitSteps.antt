@@ -249,6 +249,20 @@ module _ (pending : Option (List ℕ)) (uuids : List (List ℕ)) (uuid : List �
       let same : why ≡ freeze.TooMany = cc in
       ap Err (told ∙ ap freeze_refused_as same)
 
+only-many : (fault : FreezeFault) → freeze_refused_as fault ≡ refused.TooManyLayers → fault ≡ freeze.TooMany
+only-many freeze.TooMany e = refl
+only-many other e = absurd (cc)
+
+-- what is refused as that is no fault of the disk
+pub many-spared : (r : Result (Unit {0}) Refusal) (why : FreezeFault) → IfErr r (λ refusal. refusal ≡ freeze_refused_as why) → IsErrOf r refused.TooManyLayers
+    → IsErrOf (refuses why) freeze.Failed → ⊥
+many-spared (Ok value) why told is failed = cc
+many-spared (Err refusal) why told is failed =
+    let same : refusal ≡ refused.TooManyLayers = cc in
+    let many : why ≡ freeze.TooMany = only-many why (sym told ∙ same) in
+    let other : why ≡ freeze.Failed = cc in
+    cc
+
 -- the answer is the disk's fault just where the freeze failed
 pub to-failed : (r : Result (Unit {0}) Refusal) (fault : FreezeFault) (uuid : List ℕ) → OnOk r (fault ≡ freeze.Busy uuid) → IfErr r (λ refusal. refusal ≡ freeze_refused_as fault)
     → IsErrOf (refuses fault) freeze.Failed → IsErrOf r refused.DiskFault

@@ -58,6 +58,7 @@ fn freeze_own<D: Disk>(alloc: Global, image: &mut Image<D>, uuid: [u8; 16]) -> R
     // 255 layers are the most
     ensures many { pending_in (view image.old) ≡ None → 255 ≤ length (uuids_in (view image.old))
         → IsErrOf result Refusal.TooManyLayers }
+    ensures still { IsErrOf result Refusal.TooManyLayers → view image.new ≡ view image.old }
     ensures refused { IfErr result (CommitCause uuid (seen D.Disk image.old) (seen D.Disk image.new)) }
     ensures cause { Charges (faults_in D.Disk) image.old image.new (IsErrOf result Refusal.DiskFault) }
 {
@@ -154,6 +155,7 @@ pub fn commit_whole<D: Disk>(
     // 255 layers are the most
     ensures many { pending_in (view image.old) ≡ None → 255 ≤ length (uuids_in (view image.old))
         → IsErrOf result Refusal.TooManyLayers }
+    ensures still { IsErrOf result Refusal.TooManyLayers → view image.new ≡ view image.old }
     ensures refused { IfErr result (CommitCause uuid (seen D.Disk image.old) (seen D.Disk image.new)) }
     ensures cause { Charges (faults_in D.Disk) image.old image.new (IsErrOf result Refusal.DiskFault) }
 {

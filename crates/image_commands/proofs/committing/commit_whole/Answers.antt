@@ -12,7 +12,7 @@ use Rattle.layer_commands.specs.declared.refusal.Refusal.TheVariants as refused
 use Rattle.layer_commands.proofs.Charged.{charges_on, no_fault}
 use Rattle.image_commands.specs.Images.{commit_acts, entries}
 use Rattle.image_commands.specs.ImageSteps.{Adds, CommitCause}
-use Rattle.image_commands.proofs.Answered.{err-same, ok-from, value-from}
+use Rattle.image_commands.proofs.Answered.{err-same, not-both, not-many, ok-from, value-from}
 use Rattle.image_commands.proofs.CommitSteps.{committed-still, copy-stopped, seal-answered, sealed-all}
 use Rattle.image_commands.proofs.committing.commit_whole.Goals as goal
 
@@ -93,3 +93,17 @@ returns-in_err-copy_whole-clause-many g c none full =
 pub returns-clause-many : goal.returns-clause-many
 returns-clause-many g c none full =
     absurd (no_fault c.in_ok-freeze_own.field-0 refused.TooManyLayers (c.in_ok-freeze_own.ensures.many none full))
+
+pub returns-in_err-freeze_own-clause-still : goal.returns-in_err-freeze_own-clause-still
+returns-in_err-freeze_own-clause-still g c =
+    let p = err_from_is_err_and c.from_residual.result c.from_residual.ensures.1 in
+    rw (p.1, p.2) (λ is. c.in_err-freeze_own.ensures.still (err-same c.in_err-freeze_own.field-0.0 refused.TooManyLayers is))
+
+pub returns-in_err-copy_whole-clause-still : goal.returns-in_err-copy_whole-clause-still
+returns-in_err-copy_whole-clause-still g c =
+    let told = c.in_err-copy_whole.ensures.refused in
+    let p = err_from_is_err_and c.from_residual-in_err-copy_whole.result c.from_residual-in_err-copy_whole.ensures.1 in
+    rw (p.1, p.2) (λ is. absurd (not-both c.in_err-copy_whole.field-0.0 told is))
+
+pub returns-clause-still : goal.returns-clause-still
+returns-clause-still g c is = absurd (not-many c.seal_whole.result c.seal_whole.ensures.refused is)

@@ -124,3 +124,7 @@ pub returns-in-Err-clause-many : goal.returns-in-Err-clause-many
 returns-in-Err-clause-many g c none full =
     steps.many-refused (pending_in (parts_view c.args.image.now.parts)) (uuids_in (parts_view c.args.image.now.parts)) c.args.uuid none full c.freeze_refusal.result c.in-Err.fault
     c.in-Err.ensures.refused c.freeze_refusal.ensures.own c.freeze_refusal.ensures.refused
+
+pub returns-in-Err-clause-still : goal.returns-in-Err-clause-still
+returns-in-Err-clause-still g c is =
+    c.in-Err.ensures.same (λ failed. steps.many-spared c.freeze_refusal.result c.in-Err.fault c.freeze_refusal.ensures.refused is failed)
