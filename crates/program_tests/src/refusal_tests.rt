@@ -30,6 +30,20 @@ const AGAIN: Layer = Layer {
     ..SECOND
 };
 
+// One of 8 sectors.
+const WHOLE: Layer = Layer {
+    uuid: 0x11,
+    parent: 0,
+    sectors: 8,
+    ..SECOND
+};
+
+// A layer of a version that there is not.
+const NEWER: Layer = Layer {
+    version: 3,
+    ..SECOND
+};
+
 // A run over these files, on a disk whose first call fails where it is to.
 fn answer(
     alloc: Global,
@@ -91,7 +105,7 @@ type Case = (
 
 const NOBODY: Failing = Failing::Nobody;
 
-const CASES: [Case; 44] = [
+const CASES: [Case; 70] = [
     ("", 0, &[], false, NOBODY, 2, "usage"),
     ("read 0 x", 0, &[], true, NOBODY, 2, "usage"),
     ("grow 0", 0, &[], true, NOBODY, 2, "usage"),
@@ -216,6 +230,128 @@ const CASES: [Case; 44] = [
     ("sweep", 0, &[], false, NOBODY, 3, "no image"),
     ("sweep", 0, &[], true, Failing::Disk, 4, "disk fault"),
     ("sweep", 0, &[], true, Failing::Sink, 4, "sink fault"),
+    (
+        "flatten --stdin",
+        0,
+        &[],
+        false,
+        NOBODY,
+        3,
+        "layer 0: short",
+    ),
+    ("info", 0, &[FIRST], false, NOBODY, 2, "usage"),
+    ("sink", 0, &[], false, NOBODY, 2, "usage"),
+    (
+        "info 1",
+        0,
+        &[SECOND, NEWER],
+        false,
+        NOBODY,
+        3,
+        "layer 1: bad version 3",
+    ),
+    (
+        "stack",
+        0,
+        &[FIRST, NEWER],
+        false,
+        NOBODY,
+        3,
+        "layer 1: bad version 3",
+    ),
+    (
+        "read 0 1",
+        0,
+        &[FIRST, NEWER],
+        true,
+        NOBODY,
+        3,
+        "layer 1: bad version 3",
+    ),
+    ("write 0", 512, &[], false, NOBODY, 3, "no image"),
+    ("zero 0 1", 0, &[], false, NOBODY, 3, "no image"),
+    (
+        "flatten",
+        0,
+        &[FIRST],
+        false,
+        Failing::Sink,
+        4,
+        "sink fault",
+    ),
+    ("read 0 1", 0, &[], true, Failing::Sink, 4, "sink fault"),
+    ("write 0", 512, &[], true, Failing::Sink, 4, "sink fault"),
+    ("zero 0 1", 0, &[], true, Failing::Sink, 4, "sink fault"),
+    (
+        "info 0",
+        0,
+        &[FIRST],
+        false,
+        Failing::Shelf,
+        4,
+        "shelf fault",
+    ),
+    (
+        "stack",
+        0,
+        &[FIRST],
+        false,
+        Failing::Shelf,
+        4,
+        "shelf fault",
+    ),
+    (
+        "read 0 1",
+        0,
+        &[FIRST],
+        true,
+        Failing::Shelf,
+        4,
+        "shelf fault",
+    ),
+    (
+        "write 0",
+        512,
+        &[FIRST],
+        true,
+        Failing::Shelf,
+        4,
+        "shelf fault",
+    ),
+    (
+        "zero 0 1",
+        0,
+        &[FIRST],
+        true,
+        Failing::Shelf,
+        4,
+        "shelf fault",
+    ),
+    (
+        "grow 16",
+        0,
+        &[FIRST],
+        true,
+        Failing::Shelf,
+        4,
+        "shelf fault",
+    ),
+    (COMMIT, 0, &[FIRST], true, Failing::Shelf, 4, "shelf fault"),
+    ("sweep", 0, &[FIRST], true, Failing::Shelf, 4, "shelf fault"),
+    ("write 0", 512, &[], true, Failing::Disk, 4, "disk fault"),
+    ("zero 0 1", 0, &[], true, Failing::Disk, 4, "disk fault"),
+    ("info 0", 0, &[], false, NOBODY, 6, "no layer"),
+    ("info 1", 0, &[FIRST], false, Failing::Shelf, 6, "no layer"),
+    ("create", 0, &[], false, Failing::Disk, 6, "no size"),
+    (
+        "write 0",
+        33554433,
+        &[],
+        false,
+        Failing::Shelf,
+        6,
+        "too long",
+    ),
 ];
 
 fn disk_of(alloc: Global, is_made: bool) -> Result<MemDisk, Fail> {
@@ -257,6 +393,30 @@ fn tall_stack(alloc: Global) -> Result<Vec<Bytes>, AllocError> {
         files.push(Bytes::from_vec(layer_file(alloc, layer)?))?;
     }
     Ok(files)
+}
+
+// The same, and one more over the last.
+fn taller_stack(alloc: Global) -> Result<Vec<Bytes>, AllocError> {
+    let mut files = tall_stack(alloc)?;
+    let layer = Layer {
+        uuid: 1,
+        parent: 255,
+        ..SECOND
+    };
+    files.push(Bytes::from_vec(layer_file(alloc, layer)?))?;
+    Ok(files)
+}
+
+#[test]
+fn no_stack_has_256_layers(rt: HostRuntime) -> Result<(), Fail> {
+    let alloc = rt.alloc();
+    for line in ["stack", "flatten", "create", "read 0 1"] {
+        let layers = taller_stack(alloc)?;
+        let disk = MemDisk::new(alloc);
+        let ran = answer(alloc, line, Vec::new(alloc), layers, disk, NOBODY)?;
+        holds(&rt, is_refused(&ran, 3, "stack too many 256"), line);
+    }
+    Ok(())
 }
 
 #[test]
@@ -392,9 +552,9 @@ const DAMAGES: [Damage; 21] = [
     (2, 4104, &[9], "top 0: row 0 place"),
 ];
 
-// The image of 8 sectors with that damage.
-fn damaged(alloc: Global, file: u32, at: u64, bytes: &[u8]) -> Result<MemDisk, Fail> {
-    let mut disk = image_of_8(alloc)?;
+// The disk with that damage.
+fn damage(disk: MemDisk, file: u32, at: u64, bytes: &[u8]) -> Result<MemDisk, Fail> {
+    let mut disk = disk;
     if at > 8192 || bytes.len() > 8192 {
         return Err(Fail::new("too far"));
     }
@@ -411,7 +571,7 @@ fn damaged(alloc: Global, file: u32, at: u64, bytes: &[u8]) -> Result<MemDisk, F
 
 fn are_damages_told(rt: &impl Abort, alloc: Global, cases: &[Damage]) -> Result<(), Fail> {
     for (file, at, bytes, refusal) in cases {
-        let disk = damaged(alloc, *file, *at, bytes)?;
+        let disk = damage(image_of_8(alloc)?, *file, *at, bytes)?;
         let ran = answer_alone(alloc, "read 0 1", Vec::new(alloc), disk)?;
         holds(rt, is_refused(&ran, 3, refusal), refusal);
     }
@@ -421,4 +581,63 @@ fn are_damages_told(rt: &impl Abort, alloc: Global, cases: &[Damage]) -> Result<
 #[test]
 fn each_fault_of_an_image_is_told(rt: HostRuntime) -> Result<(), Fail> {
     are_damages_told(&rt, rt.alloc(), &DAMAGES)
+}
+
+// Whether the image's first sector was committed as a layer, the layers below it, what is written into a file,
+// or where that is cut off, and the fault.
+type Below = (
+    bool,
+    &'static [Layer],
+    u32,
+    u64,
+    &'static [u8],
+    &'static str,
+);
+
+// The second half of the manifest's epochs and the uuid in progress.
+const IN_PROGRESS: [u8; 24] = [
+    1, 0, 0, 0, 0, 0, 0, 0, 0x11, 0x11, 0x11, 0x11, 0x11, 0x11, 0x11, 0x11, 0x11, 0x11, 0x11, 0x11,
+    0x11, 0x11, 0x11, 0x11,
+];
+
+const LAYERED: [Below; 6] = [
+    (true, &[], 4, 8191, &[], "sealed 0: short"),
+    (true, &[], 4, 0, b"X", "sealed 0: bad magic"),
+    (true, &[], 4, 4616, &[9], "sealed 0: row 0 place"),
+    (true, &[FIRST], 4, 4096, b"A", "layer 1 size"),
+    (true, &[WHOLE], 4, 4096, b"A", "layer 1 parent"),
+    (false, &[FIRST], 0, 24, &IN_PROGRESS, "uuid twice 0 1"),
+];
+
+// The image of 8 sectors, whose first is a committed layer where it is to be one.
+fn committed(alloc: Global, is_committed: bool) -> Result<MemDisk, Fail> {
+    let disk = image_of_8(alloc)?;
+    if !is_committed {
+        return Ok(disk);
+    }
+    let ran = answer_alone(alloc, COMMIT, Vec::new(alloc), disk)?;
+    if ran.status != 0 {
+        return Err(Fail::new("nothing was committed"));
+    }
+    Ok(ran.disk)
+}
+
+fn is_damage_told(alloc: Global, case: Below) -> Result<bool, Fail> {
+    let (is_committed, layers, file, at, bytes, refusal) = case;
+    let disk = damage(committed(alloc, is_committed)?, file, at, bytes)?;
+    let files = files_of(alloc, layers)?;
+    let ran = answer(alloc, "read 0 1", Vec::new(alloc), files, disk, NOBODY)?;
+    Ok(is_refused(&ran, 3, refusal))
+}
+
+fn are_layered_told(rt: &impl Abort, alloc: Global, cases: &[Below]) -> Result<(), Fail> {
+    for case in cases {
+        holds(rt, is_damage_told(alloc, *case)?, case.5);
+    }
+    Ok(())
+}
+
+#[test]
+fn each_fault_of_an_image_of_layers_is_told(rt: HostRuntime) -> Result<(), Fail> {
+    are_layered_told(&rt, rt.alloc(), &LAYERED)
 }

@@ -59,7 +59,7 @@ fn sink_of(alloc: Global, fails: bool) -> Result<MemSink, AllocError> {
 }
 
 fn shelf_of(alloc: Global, files: Vec<Bytes>, failing: Failing) -> Result<MemShelf, Fail> {
-    if files.len() > 255 {
+    if files.len() > 256 {
         return Err(Fail::new("too many files"));
     }
     let failing = calls(alloc, failing == Failing::Shelf)?;
