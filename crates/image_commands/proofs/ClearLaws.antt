@@ -242,7 +242,7 @@ clear-memory command before now disk disk_now refused.NoSize counted clear cause
     let whole : length clear.files ≡ before.count = IfSome-at before.files (λ files. length files ≡ before.count) clear.files clear.told counted in
     let ready = subst (λ (c : Command). IsReady c before.left clear.files clear.layers disk) cause.0 clear.ready in
     absurd (omega (arith, whole, cause.1, ready.0))
-clear-memory command before now disk disk_now refused.OtherSize counted clear ((sectors, is, differs), untouched) =
+clear-memory command before now disk disk_now refused.OtherSize counted clear ((sectors, is, some, few, differs), untouched) =
     let ready = subst (λ (c : Command). IsReady c before.left clear.files clear.layers disk) is clear.ready in
     absurd (size-clear sectors clear.files clear.layers clear.are ready.0 (IfSome-at before.files (λ files. HaveOtherSize files sectors) clear.files clear.told differs))
 clear-memory command before now disk disk_now refused.ImageExists counted clear ((asked, is, size), stacked, exists, untouched) =

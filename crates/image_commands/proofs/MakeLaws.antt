@@ -97,11 +97,13 @@ some-of : (layers : List LayerIndex) (sectors : ℕ) → sectors < upper_sectors
 some-of [] sectors below = absurd (omega (arith, below))
 some-of (layer ∷ above) sectors below = omega arith
 
-other-size : (told : Option (List (List ℕ))) (layers : List LayerIndex) (asked : Option ℕ) → IfSome told (λ files. AreTold files layers) → AreStackOrNone layers → IsOtherSize asked layers
-    → (sectors : ℕ) × (asked ≡ Some sectors) × IfSome told (λ files. HaveOtherSize files sectors)
-other-size told layers asked are legal (sectors, is, below) = (
+other-size : (told : Option (List (List ℕ))) (count : ℕ) (layers : List LayerIndex) (asked : Option ℕ) → length layers ≡ count → length layers ≤ 255 → IfSome told (λ files. AreTold files layers) → AreStackOrNone layers → IsOtherSize asked layers
+    → (sectors : ℕ) × (asked ≡ Some sectors) × (1 ≤ count) × (count ≤ 255) × IfSome told (λ files. HaveOtherSize files sectors)
+other-size told count layers asked long few are legal (sectors, is, below) = (
   sectors,
   is,
+  omega (arith, some-of layers sectors below, long),
+  omega (arith, few, long),
   IfSome-each told (λ files e.
       let here : AreTold files layers = IfSome-at told (λ files. AreTold files layers) files e are in (
         layers_of files layers,
@@ -113,11 +115,11 @@ other-size told layers asked are legal (sectors, is, below) = (
 
 -- there is no size
 pub size-refused : (asked : Option ℕ) (told : Option (List (List ℕ))) (count shelf shelf_now : ℕ) (disk : DiskPort) (layers : List LayerIndex) → length layers ≡ count
-    → IfSome told (λ files. AreTold files layers) → AreStackOrNone layers → Quiet disk.state disk.state → (refusal : Refusal) → SizeCause asked layers refusal
+    → length layers ≤ 255 → IfSome told (λ files. AreTold files layers) → AreStackOrNone layers → Quiet disk.state disk.state → (refusal : Refusal) → SizeCause asked layers refusal
     → MakeCause asked told count shelf shelf_now disk disk refusal
-size-refused asked told count shelf shelf_now disk layers long are legal quiet refused.NoSize cause = (cause.0, sym long ∙ cause.1, quiet)
-size-refused asked told count shelf shelf_now disk layers long are legal quiet refused.OtherSize cause = (other-size told layers asked are legal cause, quiet)
-size-refused asked told count shelf shelf_now disk layers long are legal quiet other cause = absurd cause
+size-refused asked told count shelf shelf_now disk layers long few are legal quiet refused.NoSize cause = (cause.0, sym long ∙ cause.1, quiet)
+size-refused asked told count shelf shelf_now disk layers long few are legal quiet refused.OtherSize cause = (other-size told count layers asked long few are legal cause, quiet)
+size-refused asked told count shelf shelf_now disk layers long few are legal quiet other cause = absurd cause
 
 most-of : (n low : ℕ) (layers : List LayerIndex) → low ≤ n → HaveSize false n (heads_in layers) → uppermost low (map (λ (l : LayerIndex). l.head.sectors) layers) ≤ n
 most-of n low [] below sizes = below
@@ -145,18 +147,18 @@ stays true None Q kept = inr (λ t. refl)
 stays true (Some a) Q kept = inl (kept refl (λ e. cc))
 
 -- a creation was refused
-pub make-refused : (asked : Option ℕ) (told : Option (List (List ℕ))) (count n shelf shelf_now : ℕ) (disk disk_now : DiskPort) (layers : List LayerIndex) → IfSome told (λ files. AreTold files layers)
+pub make-refused : (asked : Option ℕ) (told : Option (List (List ℕ))) (count n shelf shelf_now : ℕ) (disk disk_now : DiskPort) (layers : List LayerIndex) → length layers ≡ count → length layers ≤ 255 → IfSome told (λ files. AreTold files layers)
     → AreLegal n layers → IsSizeFor asked count (upper_sectors layers) n → (fault : CreateFault) → (IsTrue disk.tells → fault ≡ create.Exists → mark_of (disk.state.seen manifest_file) ≢ None)
     → (fault ≡ create.Failed → disk.faults < disk_now.faults) → (fault ≡ create.Exists → Quiet disk.state disk_now.state) → (fault ≡ create.Memory → Quiet disk.state disk_now.state)
     → (IsTrue disk.tells → mark_of (disk.state.seen manifest_file) ≢ None → Quiet disk.state disk_now.state) → MakeCause asked told count shelf shelf_now disk disk_now (create_refused_as fault)
-make-refused asked told count n shelf shelf_now disk disk_now layers are legal size create.Exists exists failed untouched unbegun kept =
-    (has-size asked told count n layers are legal size, stacked told layers are legal.legal, λ tells. exists tells refl, untouched refl)
-make-refused asked told count n shelf shelf_now disk disk_now layers are legal size create.Memory exists failed untouched unbegun kept = unbegun refl
-make-refused asked told count n shelf shelf_now disk disk_now layers are legal size create.Failed exists failed untouched unbegun kept =
-    (failed refl, has-size asked told count n layers are legal size, stacked told layers are legal.legal, stays disk.tells (mark_of (disk.state.seen manifest_file)) (Quiet disk.state disk_now.state) kept)
+make-refused asked told count n shelf shelf_now disk disk_now layers long few are legal size create.Exists exists failed untouched unbegun kept =
+    (has-size asked told count n layers are legal size, stacked told count layers long few are legal.legal, λ tells. exists tells refl, untouched refl)
+make-refused asked told count n shelf shelf_now disk disk_now layers long few are legal size create.Memory exists failed untouched unbegun kept = unbegun refl
+make-refused asked told count n shelf shelf_now disk disk_now layers long few are legal size create.Failed exists failed untouched unbegun kept =
+    (failed refl, has-size asked told count n layers are legal size, stacked told count layers long few are legal.legal, stays disk.tells (mark_of (disk.state.seen manifest_file)) (Quiet disk.state disk_now.state) kept)
 
 -- and one that was made
-pub made : (asked : Option ℕ) (told : Option (List (List ℕ))) (count n : ℕ) (layers : List LayerIndex) (tells : Bool) (s s' : DiskState) (f f' : ℕ) (p : Parts) → AreStackedFiles told → length layers ≡ count → p.stack.lowers ≡ layers
+pub made : (asked : Option ℕ) (told : Option (List (List ℕ))) (count n : ℕ) (layers : List LayerIndex) (tells : Bool) (s s' : DiskState) (f f' : ℕ) (p : Parts) → AreStackedFiles told count → length layers ≡ count → p.stack.lowers ≡ layers
     → IsSizeFor asked count (upper_sectors layers) n → (IsTrue tells → mark_of (s.seen manifest_file) ≡ None) → StandsFor (record { tells = tells; state = s'; faults = f'; parts = p }) (fresh_at n (lowers_from told layers) f') []
     → IsMade asked told count (record { tells = tells; state = s; faults = f }) (record { tells = tells; state = s'; faults = f'; parts = p })
 made asked told count n layers tells s s' f f' p are long same size none stands =
@@ -223,7 +225,7 @@ module _ (asked : Option ℕ) (before now : Ports) (disk : DiskPort) (new : Seen
   create-failed (Err refusal) is rose front =
       subst (λ (x : Refusal). ImageCause (Create asked) before now disk (port_of new) x) (sym is) (rose (ap Err is), record { began = create-began front; all = refl })
 
-disk-failed : (asked : Option ℕ) (before now : Ports) (disk disk_now : DiskPort) → disk.faults < disk_now.faults → HasSize asked before.files before.count → AreStackedFiles before.files
+disk-failed : (asked : Option ℕ) (before now : Ports) (disk disk_now : DiskPort) → disk.faults < disk_now.faults → HasSize asked before.files before.count → AreStackedFiles before.files before.count
     → Keeps before.written now.written → Untouched before now disk disk_now ⊎ FailsToMake (Create asked) before now disk ⊎ Began (Create asked) before now disk disk_now
     → DiskFailed (Create asked) before now disk disk_now
 disk-failed asked before now disk disk_now rose size are keeps stands = record {
@@ -250,8 +252,8 @@ make-failed asked before now disk disk_now same (refused.Layer number reason) ca
 make-failed asked before now disk disk_now same (refused.Stack reason) cause = (([], refl), cause.0, cause.1, cause.2, untouched before now disk disk_now same cause.3)
 make-failed asked before now disk disk_now same refused.NoSize cause =
     (ap (λ (o : Option ℕ). create_with o) cause.0, cause.1, untouched before now disk disk_now same cause.2)
-make-failed asked before now disk disk_now same refused.OtherSize ((sectors, is, other), quiet) =
-    ((sectors, ap (λ (o : Option ℕ). create_with o) is, other), untouched before now disk disk_now same quiet)
+make-failed asked before now disk disk_now same refused.OtherSize ((sectors, is, some, few, other), quiet) =
+    ((sectors, ap (λ (o : Option ℕ). create_with o) is, some, few, other), untouched before now disk disk_now same quiet)
 make-failed asked before now disk disk_now same refused.ImageExists cause =
     ((asked, refl, cause.0), cause.1, cause.2, untouched before now disk disk_now same cause.3)
 make-failed asked before now disk disk_now same other cause = absurd cause

@@ -1,5 +1,5 @@
 -- An image that was opened or made over the layers of a shelf.
-use Rattle.std.proofs.Common.{◌≡◌, ℕ, ◌<◌, Bool, true, false, IsTrue, List, [], ◌∷◌, length, refl, sym, ap, ◌∙◌, subst, arith, inl, inr}
+use Rattle.std.proofs.Common.{◌≡◌, ℕ, ◌<◌, ◌≤◌, Bool, true, false, IsTrue, List, [], ◌∷◌, length, refl, sym, ap, ◌∙◌, subst, arith, inl, inr}
 use Rattle.std.specs.Prelude.{Option, IfSome}
 use Rattle.block_disk.specs.DiskState.{DiskState}
 use Rattle.flat_image.specs.declared.base.Base.{Base}
@@ -40,18 +40,21 @@ pub told-layers-of : (told : Option (List (List ℕ))) (layers : List LayerIndex
 told-layers-of told layers are =
     IfSome-each told (λ files e. layers-told files layers (IfSome-at told (λ files. AreTold files layers) files e are))
 
-pub stacked : (told : Option (List (List ℕ))) (layers : List LayerIndex) → IfSome told (λ files. AreTold files layers) → AreStackOrNone layers → AreStackedFiles told
-stacked told layers are legal =
-    IfSome-each told (λ files e.
-    let here : AreTold files layers = IfSome-at told (λ files. AreTold files layers) files e are in (
-      layers_of files layers,
-      told_layers files layers here,
-      λ some. subst Legal (sym (told_heads files layers here)) (legal (omega (arith, some, length_told files layers here))),
-    ))
+pub stacked : (told : Option (List (List ℕ))) (count : ℕ) (layers : List LayerIndex) → length layers ≡ count → length layers ≤ 255 → IfSome told (λ files. AreTold files layers) → AreStackOrNone layers
+    → AreStackedFiles told count
+stacked told count layers long few are legal = (
+  omega (arith, long, few),
+  IfSome-each told (λ files e.
+      let here : AreTold files layers = IfSome-at told (λ files. AreTold files layers) files e are in (
+        layers_of files layers,
+        told_layers files layers here,
+        λ some. subst Legal (sym (told_heads files layers here)) (legal (omega (arith, some, length_told files layers here))),
+      )),
+)
 
 -- an image stands for nothing done over a base: that lies over the layers
 pub lies-over : (told : Option (List (List ℕ))) (count : ℕ) (layers : List LayerIndex) (tells : Bool) (s : DiskState) (faults : ℕ) (p : Parts) (base : Base)
-    → AreStackedFiles told → length layers ≡ count → p.stack.lowers ≡ layers → base.lowers ≡ lowers_from told layers → StandsFor (record { tells = tells; state = s; faults = faults; parts = p }) base [] → LiesOver told count base
+    → AreStackedFiles told count → length layers ≡ count → p.stack.lowers ≡ layers → base.lowers ≡ lowers_from told layers → StandsFor (record { tells = tells; state = s; faults = faults; parts = p }) base [] → LiesOver told count base
 lies-over told count layers tells s faults p base are long same lowers stands = record {
   stacked = are;
   sound = sound-weaker stands.fits.exact false base (λ e. absurd (let no : false ≡ true = e in cc)) stands.fits.sound;
@@ -59,7 +62,7 @@ lies-over told count layers tells s faults p base are long same lowers stands = 
   lowers = IfSome-each told (λ files e. lowers ∙ ap (λ (o : Option (List (List ℕ))). lowers_from o layers) e);
 }
 
-pub opened : (told : Option (List (List ℕ))) (count : ℕ) (layers : List LayerIndex) (tells : Bool) (s s' : DiskState) (f f' : ℕ) (p : Parts) → AreStackedFiles told → length layers ≡ count → p.stack.lowers ≡ layers
+pub opened : (told : Option (List (List ℕ))) (count : ℕ) (layers : List LayerIndex) (tells : Bool) (s s' : DiskState) (f f' : ℕ) (p : Parts) → AreStackedFiles told count → length layers ≡ count → p.stack.lowers ≡ layers
     → seen.IsOpened s told (record { tells = tells; state = s'; faults = f'; parts = p })
     → IsOpened told count (record { tells = tells; state = s; faults = f }) (record { tells = tells; state = s'; faults = f'; parts = p })
 opened told count layers tells s s' f f' p are long same is = (
@@ -71,12 +74,12 @@ opened told count layers tells s s' f f' p are long same is = (
 
 -- it was not opened
 pub load-refused : (told : Option (List (List ℕ))) (count shelf shelf_now : ℕ) (disk disk_now : DiskPort) (layers : List LayerIndex) (fault : LoadFault)
-    → IfSome told (λ files. AreTold files layers) → AreStackOrNone layers → (fault ≡ load.Failed → disk.faults < disk_now.faults) → (IsTrue disk.tells → IsLoadReason disk.state.seen layers fault)
+    → length layers ≡ count → length layers ≤ 255 → IfSome told (λ files. AreTold files layers) → AreStackOrNone layers → (fault ≡ load.Failed → disk.faults < disk_now.faults) → (IsTrue disk.tells → IsLoadReason disk.state.seen layers fault)
     → OpenCause told count shelf shelf_now disk disk_now (load_cause fault)
-load-refused told count shelf shelf_now disk disk_now layers load.Memory are legal failed reason = tt
-load-refused told count shelf shelf_now disk disk_now layers load.Failed are legal failed reason = (failed refl, stacked told layers are legal)
-load-refused told count shelf shelf_now disk disk_now layers fault are legal failed reason = (
-  stacked told layers are legal,
+load-refused told count shelf shelf_now disk disk_now layers load.Memory long few are legal failed reason = tt
+load-refused told count shelf shelf_now disk disk_now layers load.Failed long few are legal failed reason = (failed refl, stacked told count layers long few are legal)
+load-refused told count shelf shelf_now disk disk_now layers fault long few are legal failed reason = (
+  stacked told count layers long few are legal,
   record { layers = layers; read = told-layers-of told layers are; reason = reason; of_image = ((λ e. cc), (λ e. cc)) },
 )
 

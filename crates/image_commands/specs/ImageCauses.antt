@@ -173,7 +173,7 @@ FailsToMake command before now disk =
 pub record DiskFailed (command : Command) (before now : Ports) (disk disk_now : DiskPort) : Type 0 where
   pub rose : disk.faults < disk_now.faults
   pub fed : IsFed command before
-  pub stacked : AreStackedFiles before.files
+  pub stacked : AreStackedFiles before.files before.count
   pub size : (asked : Option ℕ) → command ≡ Create asked → HasSize asked before.files before.count
   pub silent : IsRead command ⊎ Keeps before.written now.written
   pub stands : Untouched before now disk disk_now ⊎ FailsToMake command before now disk ⊎ Began command before now disk disk_now
@@ -208,9 +208,10 @@ ImageCause command before now disk disk_now (refused.Stack fault) =
 ImageCause command before now disk disk_now refused.NoSize =
     (command ≡ Create None) × (before.count ≡ 0) × Untouched before now disk disk_now
 ImageCause command before now disk disk_now refused.OtherSize =
-    ((sectors : ℕ) × (command ≡ Create (Some sectors)) × IfSome before.files (λ files. HaveOtherSize files sectors)) × Untouched before now disk disk_now
+    ((sectors : ℕ) × (command ≡ Create (Some sectors)) × (1 ≤ before.count) × (before.count ≤ 255) × IfSome before.files (λ files. HaveOtherSize files sectors))
+    × Untouched before now disk disk_now
 ImageCause command before now disk disk_now refused.ImageExists =
-    ((asked : Option ℕ) × (command ≡ Create asked) × HasSize asked before.files before.count) × AreStackedFiles before.files
+    ((asked : Option ℕ) × (command ≡ Create asked) × HasSize asked before.files before.count) × AreStackedFiles before.files before.count
     × (IsTrue disk.tells → mark_of (disk.state.seen manifest_file) ≢ None) × Untouched before now disk disk_now
 ImageCause command before now disk disk_now refused.OutOfRange =
     GoesPast command before disk disk_now × Untouched before now disk disk_now
@@ -239,4 +240,4 @@ ImageCause command before now disk disk_now refused.NoLayer = ⊥
 abbrev pub CommandCause : Command → Ports → Ports → DiskPort → DiskPort → ImageRefusal → Type 0
 CommandCause command before now disk disk_now (Other refusal) = ImageCause command before now disk disk_now refusal
 CommandCause command before now disk disk_now (Load fault) =
-    (IsCreate command → ⊥) × IsFed command before × AreStackedFiles before.files × HoldsNone before.files disk fault × Untouched before now disk disk_now
+    (IsCreate command → ⊥) × IsFed command before × AreStackedFiles before.files before.count × HoldsNone before.files disk fault × Untouched before now disk disk_now

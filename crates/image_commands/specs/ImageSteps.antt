@@ -53,12 +53,12 @@ IsOpened told count disk image =
 -- why no image was opened
 abbrev pub OpenCause : Option (List (List ℕ)) → ℕ → (shelf shelf_now : ℕ) → (disk disk_now : DiskPort) → ImageRefusal → Type 0
 OpenCause told count shelf shelf_now disk disk_now (Other refused.Memory) = Unit {0}
-OpenCause told count shelf shelf_now disk disk_now (Other refused.DiskFault) = (disk.faults < disk_now.faults) × AreStackedFiles told
+OpenCause told count shelf shelf_now disk disk_now (Other refused.DiskFault) = (disk.faults < disk_now.faults) × AreStackedFiles told count
 OpenCause told count shelf shelf_now disk disk_now (Other refused.ShelfFault) = shelf < shelf_now
 OpenCause told count shelf shelf_now disk disk_now (Other (refused.Layer number fault)) = IfSome told (λ files. StopsAt files number fault)
 OpenCause told count shelf shelf_now disk disk_now (Other (refused.Stack fault)) =
     (1 ≤ count) × IsOfCount fault count × IfSome told (λ files. (layers : List LayerSheet) × AreLayers files layers × IsStackFault (heads_of layers) fault)
-OpenCause told count shelf shelf_now disk disk_now (Load fault) = AreStackedFiles told × HoldsNone told disk fault
+OpenCause told count shelf shelf_now disk disk_now (Load fault) = AreStackedFiles told count × HoldsNone told disk fault
 OpenCause told count shelf shelf_now disk disk_now (Other other) = ⊥
 
 -- every act but a read
@@ -275,7 +275,7 @@ create_refused_as create.Failed = refused.DiskFault
 abbrev pub MakeCause : Option ℕ → Option (List (List ℕ)) → ℕ → (shelf shelf_now : ℕ) → (disk disk_now : DiskPort) → Refusal → Type 0
 MakeCause asked told count shelf shelf_now disk disk_now refused.Memory = Quiet disk.state disk_now.state
 MakeCause asked told count shelf shelf_now disk disk_now refused.DiskFault =
-    (disk.faults < disk_now.faults) × HasSize asked told count × AreStackedFiles told
+    (disk.faults < disk_now.faults) × HasSize asked told count × AreStackedFiles told count
     × (Quiet disk.state disk_now.state ⊎ (IsTrue disk.tells → mark_of (disk.state.seen manifest_file) ≡ None))
 MakeCause asked told count shelf shelf_now disk disk_now refused.ShelfFault = (shelf < shelf_now) × Quiet disk.state disk_now.state
 MakeCause asked told count shelf shelf_now disk disk_now (refused.Layer number reason) =
@@ -285,9 +285,9 @@ MakeCause asked told count shelf shelf_now disk disk_now (refused.Stack reason) 
     × Quiet disk.state disk_now.state
 MakeCause asked told count shelf shelf_now disk disk_now refused.NoSize = (asked ≡ None) × (count ≡ 0) × Quiet disk.state disk_now.state
 MakeCause asked told count shelf shelf_now disk disk_now refused.OtherSize =
-    ((sectors : ℕ) × (asked ≡ Some sectors) × IfSome told (λ files. HaveOtherSize files sectors)) × Quiet disk.state disk_now.state
+    ((sectors : ℕ) × (asked ≡ Some sectors) × (1 ≤ count) × (count ≤ 255) × IfSome told (λ files. HaveOtherSize files sectors)) × Quiet disk.state disk_now.state
 MakeCause asked told count shelf shelf_now disk disk_now refused.ImageExists =
-    HasSize asked told count × AreStackedFiles told × (IsTrue disk.tells → mark_of (disk.state.seen manifest_file) ≢ None) × Quiet disk.state disk_now.state
+    HasSize asked told count × AreStackedFiles told count × (IsTrue disk.tells → mark_of (disk.state.seen manifest_file) ≢ None) × Quiet disk.state disk_now.state
 MakeCause asked told count shelf shelf_now disk disk_now other = ⊥
 
 -- what the fault of a whole read is refused as

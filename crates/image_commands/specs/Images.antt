@@ -137,13 +137,13 @@ reach_of (Read at count) bytes = at + count
 reach_of (Write at) bytes = at + sector_count bytes
 reach_of (Zero at count) bytes = at + count
 
--- the shelf's files, where it tells them, are layers that form a stack, or there are none
-abbrev pub AreStackedFiles : Option (List (List ℕ)) → Type 0
-AreStackedFiles told = IfSome told (λ files. (layers : List LayerSheet) × AreLayers files layers × (1 ≤ length files → Legal (heads_of layers)))
+-- the shelf has at most 255 files, and where it tells them they are layers that form a stack, or there are none
+abbrev pub AreStackedFiles : Option (List (List ℕ)) → ℕ → Type 0
+AreStackedFiles told count = (count ≤ 255) × IfSome told (λ files. (layers : List LayerSheet) × AreLayers files layers × (1 ≤ length files → Legal (heads_of layers)))
 
 -- the lower layers of the base are the shelf's, whose files they are where the shelf tells them, and form a stack
 pub record LiesOver (told : Option (List (List ℕ))) (count : ℕ) (base : Base) : Type 0 where
-  pub stacked : AreStackedFiles told
+  pub stacked : AreStackedFiles told count
   pub sound : IsSound false base
   pub long : length base.lowers ≡ count
   pub lowers : IfSome told (λ files. base.lowers ≡ files)
