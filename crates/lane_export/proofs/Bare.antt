@@ -55,6 +55,8 @@ module _ {X P A B : Type 0} (f : X → P) (w : Ways A B) (base : Base) (tells : 
     told_end = h.told_end;
     control_is = subst (λ (n : ℕ). ControlIn h.history (ends_at start.stream (first_port start.tells h.lock n start.shelf)) stream h.control_ended) (sym (length-map olds f)) h.control_is;
     why = subst (λ (n : ℕ). WhyEnded h.ends h.history n end) (sym (length-map olds f)) h.why;
+    left = h.left;
+    holds = h.holds;
   }
 
   exports-bare : (olds news : List X) (image : Seen) (end : ExportEnd) → length news ≡ length olds

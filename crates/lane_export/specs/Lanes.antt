@@ -1,6 +1,6 @@
 -- What lanes do in threads, and what it comes to.
 use Rattle.flat_image.specs.declared.act.Act.TheVariants.{Flush, Fault}
-use Rattle.flat_image.specs.declared.act.Asked.TheVariants.{Nothing}
+use Rattle.flat_image.specs.declared.act.Asked.TheVariants.{Nothing, Uuid, Sectors}
 use Rattle.flat_image.specs.declared.base.Base.{Base}
 use Rattle.flat_image.specs.declared.port_fault.PortFault.{PortFault}
 use Rattle.flat_image.specs.declared.port_fault.PortFault.TheVariants as fault
@@ -11,7 +11,8 @@ use Rattle.std.specs.Prelude.{◌||◌, ◌&&◌, is_some, true, ◌≡◌, ◌�
 use Rattle.atomic_table.specs.Seated.{TableId}
 use Rattle.flat_image.specs.declared.act.Act.{Act}
 use Rattle.flat_image.specs.Entries.{entry, calls_by, StartsWith}
-use Rattle.flat_image.specs.History.{History}
+use Rattle.flat_image.specs.History.{History, now}
+use Rattle.flat_image.specs.Left.{Blamed}
 use Rattle.flat_image.specs.Ports.{PortState}
 use Rattle.turn_lock.specs.Locks.{Lock, Place, place}
 use Rattle.nbd_session.specs.declared.export.Export.{Export}
@@ -26,6 +27,8 @@ use Rattle.layer_shelf.specs.declared.shelves.Shelf as shelves
 use Rattle.byte_ports.specs.declared.ports.Source as sources
 use Rattle.byte_ports.specs.declared.ports.Sink as sinks
 use Rattle.lane_serve.specs.Lanes.{Ways, Runs}
+use Rattle.image_commands.specs.Images.{LeavesOf, Holds}
+use Rattle.image_commands.specs.ImageSteps.{port_of}
 use Rattle.control_session.specs.declared.control_end.ControlEnd.{ControlEnd}
 use Rattle.control_session.specs.Controls.{control}
 use Rattle.control_session.specs.Sessions.{Ends, ends, Serves}
@@ -163,6 +166,10 @@ WhyEnded ends history number export_end.FlushFailed = (any_failed ends ≡ false
 WhyEnded ends history number export_end.Worn = (any_failed ends ≡ false) × (length history ≡ 2 ^ 62)
 WhyEnded ends history number export_end.Memory = ⊥
 
+-- no freeze, seal or grow failed since the last one that was made
+abbrev pub IsUnblamed : History → Type 0
+IsUnblamed history = ((uuid : List ℕ) → Blamed history (Uuid uuid) → ⊥) × ((sectors : ℕ) → Blamed history (Sectors sectors) → ⊥)
+
 -- The lanes were served. There is one history, for which the image stands over the base. The lanes' numbers are those of
 -- their places, the control's is their number, and no others have entries.
 pub record HasServed {P A B : Type 0} (w : Ways A B) (base : Base) (tells : P → Bool) (shelf : P → ℕ) (told : P → Option (Listening A B Served)) (faults : P → ℕ) (old new : List P) (connections : ℕ) (start : ControlStart) (stream : Stream) (control_end : Option ControlEnd) (image : Seen) (end : ExportEnd) : Type 0 where
@@ -181,6 +188,8 @@ pub record HasServed {P A B : Type 0} (w : Ways A B) (base : Base) (tells : P �
   pub told_end : control_end ≡ Some control_ended
   pub control_is : ControlIn history (ends_at start.stream (first_port start.tells lock (length old) start.shelf)) stream control_ended
   pub why : WhyEnded ends history (length old) end
+  pub left : LeavesOf (port_of image) base history
+  pub holds : end ≡ export_end.Flushed → IsUnblamed history → Holds (port_of image) (now base history)
 
 -- an export of an image. Where memory was wanting, nothing was served and nothing noted, and all lanes and the control are as
 -- they were

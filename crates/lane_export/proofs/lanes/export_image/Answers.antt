@@ -10,6 +10,7 @@ use Rattle.lane_export.specs.declared.parts.Control.{Control}
 use Rattle.lane_export.specs.Lanes.{first_port, WhyEnded, ControlDone, ends_at, stream_of}
 use Rattle.lane_export.proofs.Rows.{all-front, first-last}
 use Rattle.lane_export.proofs.Composed.{first-of, seats-from, lane-in, why-ended, control-served, closed-empty, exports-served}
+use Rattle.lane_export.proofs.Shown.{shown-left, shown-holds}
 use Rattle.lane_export.proofs.lanes.export_image.Goals as goal
 
 pub serve_in_lanes-requires-clause-seats : goal.serve_in_lanes-requires-clause-seats
@@ -85,6 +86,12 @@ returns-in-Ok-serve_in_lanes-clause-exports g c =
     let seat_is : c.in-Some.seat ≡ place id (length c.args.pairs.items) [] false =
     first-last id c.in-Ok.made.1 rest c.in-Some.seat (sym c.into_vec-seats.ensures ∙ c.in-Some.ensures.items) (first-of id _ c.in-Ok.made.1 c.in-Ok.ensures.seats.0 c.in-Ok.ensures.seats.1)
     ∙ ap (λ (m : ℕ). place id m [] false) (rest_many ∙ many) in
+    let image = seen g.D.Disk c.close-image.result in
+    let stands : StandsFor image g.N.Named.it h.history = rw c.in-Ok.ensures.lock.0 at h.stands in
+    let why : WhyEnded r.lanes.0 h.history (length c.args.pairs.items) c.end_by.result = subst (WhyEnded r.lanes.0 h.history (length c.args.pairs.items)) (sym c.end_by.ensures)
+    (why-ended r.lanes.0 c.in-Ok-serve_in_lanes.failed c.flush-last.result seats c.in-Ok-serve_in_lanes.seat c.flush-last.new.seat h.history
+    (seat_port false c.in-Ok.made.0 c.in-Ok-serve_in_lanes.seat 0) (seat_port false c.in-Ok.made.0 c.flush-last.new.seat 0) (length c.args.pairs.items)
+    r.lanes.1 (c.flush-last.ensures.flush false 0) c.in-Ok.ensures.lock.1 ish (number ∙ many) (r.same.number ∙ (last.1 ∙ (rest_many ∙ many))) many are.numbered r.met refl refl refl) in
     exports-served (record { left = g.L.A.Source.left; reads = g.L.A.Source.faults; written = g.L.B.Sink.written; writes = g.L.B.Sink.faults; takes = false; export = c.args.export.now }) g.N.Named.it
     (λ (pair : g.row.S.Denot × g.row.L.Denot). g.D.Disk.tells && is_some (g.S.Shelf.files pair.0)) (λ (pair : g.row.S.Denot × g.row.L.Denot). g.S.Shelf.faults pair.0)
     (λ (pair : g.row.S.Denot × g.row.L.Denot). g.L.Listener.told pair.1) (λ (pair : g.row.S.Denot × g.row.L.Denot). g.L.Listener.faults pair.1)
@@ -93,7 +100,7 @@ returns-in-Ok-serve_in_lanes-clause-exports g c =
       base_is = c.in-Ok.ensures.lock.0;
       first_is = c.in-Ok.ensures.lock.1;
       history = h.history;
-      stands = rw c.in-Ok.ensures.lock.0 at h.stands;
+      stands = stands;
       ends = r.lanes.0;
       many = r.lanes.2;
       lanes = λ k e f d lt. lane-in seats c.flush-last.new.seat h.history ish k c.flush-last.new.seat (record { left = g.L.A.Source.left; reads = g.L.A.Source.faults; written = g.L.B.Sink.written; writes = g.L.B.Sink.faults; takes = false; export = c.args.export.now }) _ _ _ c.args.connections _ (omega (arith, lt, many)) refl (r.lanes.3 k e f c.flush-last.new.seat d lt);
@@ -103,10 +110,10 @@ returns-in-Ok-serve_in_lanes-clause-exports g c =
       control_is = control-served c.flush-last.result seats c.in-Ok-serve_in_lanes.seat c.flush-last.new.seat h.history (seat_port false c.in-Ok.made.0 c.in-Ok-serve_in_lanes.seat 0) (seat_port false c.in-Ok.made.0 c.flush-last.new.seat 0)
           (ends_at stream (first_port tells c.in-Ok.made.0 (length c.args.pairs.items) faults)) now c.in-Ok-serve_in_lanes.end (c.flush-last.ensures.flush false 0) ish number (sym many) refl (r.same.number ∙ (last.1 ∙ rest_many)) refl
           (subst (λ (s : Place Act). ControlDone (ends_at stream (seat_port tells c.in-Ok.made.0 s faults)) now c.in-Ok-serve_in_lanes.seat c.in-Ok-serve_in_lanes.end) seat_is r.served);
-      why = subst (WhyEnded r.lanes.0 h.history (length c.args.pairs.items)) (sym c.end_by.ensures)
-          (why-ended r.lanes.0 c.in-Ok-serve_in_lanes.failed c.flush-last.result seats c.in-Ok-serve_in_lanes.seat c.flush-last.new.seat h.history
-          (seat_port false c.in-Ok.made.0 c.in-Ok-serve_in_lanes.seat 0) (seat_port false c.in-Ok.made.0 c.flush-last.new.seat 0) (length c.args.pairs.items)
-          r.lanes.1 (c.flush-last.ensures.flush false 0) c.in-Ok.ensures.lock.1 ish (number ∙ many) (r.same.number ∙ (last.1 ∙ (rest_many ∙ many))) many are.numbered r.met refl refl refl);
+      why = why;
+      left = shown-left image g.N.Named.it h.history stands;
+      holds = shown-holds image g.N.Named.it h.history r.lanes.0 (length c.args.pairs.items) c.end_by.result stands why
+          (λ tells f. (g.met.D.Disk g.world.𝓛 g.world.𝓜 g.world.𝓡 ((λ s x. x), (λ x. x), (λ x. x), (λ x. x))).seen_may_stay c.close-image.result.disk f tells);
     })
 
 pub returns-in-Err-serve_in_lanes-clause-exports : goal.returns-in-Err-serve_in_lanes-clause-exports
