@@ -7,3 +7,5 @@ mod image_read_tests;
 mod images;
 #[cfg(test)]
 mod shared_image_tests;
+#[cfg(test)]
+mod speed_tests;
