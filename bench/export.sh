@@ -3,11 +3,12 @@
 # files and a fourth for writes that qemu-nbd exports. Each figure is the median of ROUNDS (3) runs of SECONDS_EACH (4) seconds, in
 # which the two servers take turns; the third column is what the program does for each that qemu-nbd does, the last two are the
 # microseconds of processors that each server uses for a request, or for a MiB. Each run has a server of its own, over an image in
-# which nothing was written. All caches of the system are warm. Then it prints
+# which nothing was written. The caches of the system are warm. The program's cache has room for the whole image, which was read once,
+# but where a line says otherwise. Then it prints
 #   - the time from the server's start to the first byte of a read, over 1, 16 and 64 layers (milliseconds: less is better);
 #   - the reads of a client beside another that writes 4 KiB and flushes, again and again, and how long 99 of 100 of them take;
-#   - the most memory that a server had while four connections read and write 32 MiB at a time;
-#   - the system calls of each request, by strace.
+#   - the most memory that a server had while four connections read and write 32 MiB at a time, with a cache of 64 MiB;
+#   - the system calls of each request, by strace, with such a cache that is empty at first.
 # It needs libnbd-bin, qemu-utils, fio, strace and python3, takes nine minutes and 12 GB of temporary room; MIB is the image's size
 # (1024 where it is not said, a multiple of 128). PARTS names what is printed (rates opening beside memory calls). PROGRAM is
 # crates/overlay_tool/out/overlay_tool, as `rt run` leaves it, where none is named.
@@ -187,11 +188,13 @@ def line(name, ours, peer, used=''):
     print(f'{name:50}{ours:12.{0 if ours >= 100 else 1}f}{peer:12.{0 if peer >= 100 else 1}f}{ours / peer:8.2f}{used}', flush=True)
 
 
-def compare(name, measure):
+def compare(name, measure, warm=False):
     found, used = {Ours: [], Peer: []}, {Ours: [], Peer: []}
     for number in range(rounds):
         for kind in (Ours, Peer) if number % 2 == 0 else (Peer, Ours):
             with Served(kind) as server:
+                if warm:
+                    fio(server, 'read', '1m', '--iodepth=4')
                 before = server.used()
                 figure, count = measure(server)
                 found[kind].append(figure)
@@ -264,14 +267,15 @@ if set(parts) - {'opening'}:
 print(f'{"":50}{Ours.name:>12}{Peer.name:>12}{"ratio":>8}{"us of one":>14}{"of the other":>14}')
 if 'rates' in parts:
     again = '--iodepth=4', '--time_based', f'--runtime={seconds}'
-    compare('reads of 1 MiB, MiB/s', bandwidth('read', '1m', *again))
-    compare('reads by nbdcopy with 4 connections, MiB/s', copied)
+    compare('reads of 1 MiB, MiB/s', bandwidth('read', '1m', *again), warm=True)
+    compare('reads by nbdcopy with 4 connections, MiB/s', copied, warm=True)
     for count in (1, 2, 4):
-        compare(f'random reads of 4 KiB, connections: {count}, /s', rate('randread', '4k', *jobs(count)))
+        compare(f'random reads of 4 KiB, connections: {count}, /s', rate('randread', '4k', *jobs(count)), warm=True)
+    compare('the same, 1 connection, a cache that is empty', rate('randread', '4k', *jobs(1)))
     Ours.cache = 1024
-    compare('the same, 1 connection, a cache of 64 MiB', rate('randread', '4k', *jobs(1)))
+    compare('the same, 1 connection, a cache of 64 MiB', rate('randread', '4k', *jobs(1)), warm=True)
     Ours.cache = 16384
-    compare('random reads of 4 KiB one by one, /s', rate('randread', '4k', '--iodepth=1'))
+    compare('random reads of 4 KiB one by one, /s', rate('randread', '4k', '--iodepth=1'), warm=True)
     compare('random writes of 4 KiB, /s', rate('randwrite', '4k', '--iodepth=16'))
     compare('writes of 4 KiB with a flush each, /s', rate('randwrite', '4k', '--iodepth=1', '--fsync=1'))
     compare('writes of 1 MiB, each place once, MiB/s', bandwidth('write', '1m', '--iodepth=4'))
@@ -284,6 +288,7 @@ if 'beside' in parts:
     ours, peer = beside(Ours), beside(Peer)
     line('random reads beside a client that flushes, /s', ours[0], peer[0])
     line('99 of 100 of them within, ms', ours[1], peer[1])
+Ours.cache = 1024
 if 'memory' in parts:
     ours, peer = most_memory(Ours), most_memory(Peer)
     line('most memory, four readers of 32 MiB, MiB', ours[0], peer[0])
