@@ -4,17 +4,22 @@ use Rattle.byte_ports.specs.InMemory.{SourceState, SinkState}
 use Rattle.lane_serve.specs.declared.in_memory.TakenBack.{TakenBack}
 use Rattle.lane_serve.specs.Listeners.{Listening, Taken}
 
--- a listener in memory: all connections, how many were given, whether it was said that no more come, those that came
--- back, and the faults so far
+-- a listener in memory: all connections, the numbers of the calls that fail, the number of the next call, how many
+-- connections were given, whether it was said that no more come, those that came back, how many calls found no memory, and
+-- the faults so far
 pub record ListenerState (E : Type 0) : Type 0 where
   pub connections : List (List ℕ)
+  pub failing : List ℕ
+  pub calls : ℕ
   pub count : ℕ
   pub ended : Bool
   pub back : List (TakenBack E)
+  pub wants : ℕ
   pub faults : ℕ
 
-abbrev pub new_listener : {E : Type 0} → List (List ℕ) → ListenerState E
-new_listener connections = record { connections = connections; count = 0; ended = false; back = []; faults = 0 }
+abbrev pub new_listener : {E : Type 0} → List (List ℕ) → List ℕ → ListenerState E
+new_listener connections failing =
+    record { connections = connections; failing = failing; calls = 0; count = 0; ended = false; back = []; wants = 0; faults = 0 }
 
 -- a source of bytes and an empty sink, as they are given
 abbrev pub source_of : List ℕ → SourceState

@@ -1,6 +1,8 @@
 //! A listener in memory, for tests.
-ghost use Rattle.std.specs.Prelude.{◌≡◌, ◌+◌, ◌^◌, ◌<◌, ◌≤◌, length, vec_capacity, IfOk};
-ghost use Rattle.lane_serve.specs.InMemory.{source_of, sink_of, new_listener};
+ghost use Rattle.std.specs.Prelude.{◌≡◌, ◌+◌, ◌-◌, ◌^◌, ◌<◌, ◌≤◌, [], ◌∷◌, ◌++◌, min, length, vec_capacity, true, Contains, Some, IfOk, IsErr, OnErr, MatchOption};
+ghost use Rattle.sector_extent.specs.Causes.{Charges};
+ghost use Rattle.lane_serve.specs.InMemory.{source_of, sink_of, new_listener, told_by};
+ghost use Rattle.lane_serve.specs.Listeners.{Accepts, MayFinish, Finishes};
 
 use crate::listener::{ListenFailed, Listener};
 use byte_ports::{MemSink, MemSource};
@@ -29,6 +31,7 @@ pub struct MemListener<E> {
     ended: bool,
     taken: Vec<TakenBack<E>>,
     plan: CallPlan,
+    wants: u64,
     faults: FaultCount,
 }
 
@@ -40,20 +43,23 @@ impl<E> Model for MemListener<E> {
 
     ghost view = { λ s. record {
       connections = s.connections;
+      failing = s.plan.failing;
+      calls = s.plan.calls;
       count = s.given;
       ended = s.ended;
       back = s.taken.items;
+      wants = s.wants;
       faults = s.faults.count;
     } };
 
     ghost invariant = { λ s. (s.given ≤ length s.connections) × (length s.taken.items ≤ s.given)
-        × (s.given ≤ vec_capacity s.taken) };
+        × (s.given ≤ vec_capacity s.taken) × (s.wants ≤ s.faults.count) };
 }
 
 impl<E> MemListener<E> {
     /// The calls of `accept` whose numbers, from 0, are in `failing` fail.
     pub fn new(alloc: Global, connections: FileTexts, failing: CallList) -> MemListener<E>
-        ensures { result ≡ new_listener connections }
+        ensures { result ≡ new_listener connections failing }
     {
         MemListener {
             alloc,
@@ -62,6 +68,7 @@ impl<E> MemListener<E> {
             ended: false,
             taken: Vec::new(alloc),
             plan: CallPlan::new(failing),
+            wants: 0,
             faults: FaultCount::new(),
         }
     }
@@ -70,6 +77,25 @@ impl<E> MemListener<E> {
         ensures { result ≡ self.back }
     {
         ListOf::from_vec(self.taken)
+    }
+
+    /// How many calls of `accept` found no memory. They are among the faults.
+    pub fn wants(&self) -> u64
+        ensures wants { result ≡ self.now.wants }
+        ensures part { self.now.wants ≤ self.now.faults }
+    {
+        self.wants
+    }
+
+    fn want(&mut self) -> ListenFailed
+        ensures { self.new ≡ record self.old {
+          wants = min (self.old.wants + 1) (2 ^ 64 - 1);
+          faults = self.old.faults + 1;
+        } }
+    {
+        self.wants = self.wants.saturating_add(1);
+        self.faults.raise();
+        ListenFailed
     }
 }
 
@@ -110,8 +136,29 @@ impl<E> Listener for MemListener<E> {
 
     ghost told = { λ s. Some (told_by s) };
 
-    /// Fails where the call was named to, and where it finds no memory.
-    fn accept(&mut self) -> Result<Option<(MemSource, MemSink)>, ListenFailed> {
+    /// A call that was not named to fail fails only where it finds no memory, which `wants` counts. The
+    /// numbers of calls and of wants stand still at 2^64 - 1.
+    fn accept(&mut self) -> Result<Option<(MemSource, MemSink)>, ListenFailed>
+        ensures told { Accepts (Some (told_by self.old)) (Some (told_by self.new)) result }
+        ensures cause { Charges (λ listener. listener.faults) self.old self.new (IsErr result) }
+        ensures ok { IfOk result (λ given. MatchOption given
+            ((self.old.count ≡ length self.old.connections) × (self.new ≡ record self.old {
+              ended = true;
+              calls = min (self.old.calls + 1) (2 ^ 64 - 1);
+            }))
+            (λ _. self.new ≡ record self.old {
+              count = self.old.count + 1;
+              calls = min (self.old.calls + 1) (2 ^ 64 - 1);
+            })) }
+        ensures named { Contains self.old.failing self.old.calls → IsErr result × (self.new.wants ≡ self.old.wants) }
+        ensures wanted { ¬ Contains self.old.failing self.old.calls
+            → OnErr result (self.new.wants ≡ min (self.old.wants + 1) (2 ^ 64 - 1)) }
+        ensures err { OnErr result (self.new ≡ record self.old {
+          faults = self.old.faults + 1;
+          calls = min (self.old.calls + 1) (2 ^ 64 - 1);
+          wants = self.new.wants;
+        }) }
+    {
         if self.plan.next_fails() {
             self.faults.raise();
             return Err(ListenFailed);
@@ -121,8 +168,7 @@ impl<E> Listener for MemListener<E> {
             return Ok(None);
         }
         if make_room(&mut self.taken, self.given).is_err() {
-            self.faults.raise();
-            return Err(ListenFailed);
+            return Err(self.want());
         }
         let bytes = self.connections.as_slice()[self.given].as_slice();
         match connection(self.alloc, bytes) {
@@ -130,14 +176,16 @@ impl<E> Listener for MemListener<E> {
                 self.given += 1;
                 Ok(Some(made))
             }
-            Err(_) => {
-                self.faults.raise();
-                Err(ListenFailed)
-            }
+            Err(_) => Err(self.want()),
         }
     }
 
-    fn finish(&mut self, source: MemSource, sink: MemSink, end: E) {
+    fn finish(&mut self, source: MemSource, sink: MemSink, end: E)
+        requires { MayFinish (Some (told_by self.old)) }
+        ensures told { Finishes (Some (told_by self.old)) (Some (told_by self.new)) source sink end }
+        ensures calm { self.new.faults ≡ self.old.faults }
+        ensures back { self.new ≡ record self.old { back = self.new.back } }
+    {
         self.taken.push_reserved(TakenBack { source, sink, end });
     }
 }

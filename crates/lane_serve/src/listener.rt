@@ -1,5 +1,5 @@
 //! Where connections come from, and where they go back to.
-ghost use Rattle.std.specs.Prelude.{◌≡◌, ℕ, ◌≤◌, IsErr};
+ghost use Rattle.std.specs.Prelude.{◌≡◌, ℕ, IsErr};
 ghost use Rattle.std.specs.declared.option.Option.{Option};
 ghost use Rattle.sector_extent.specs.Causes.{Charges};
 ghost use Rattle.lane_serve.specs.Listeners.{Listening, Accepts, MayFinish, Finishes};
@@ -33,9 +33,9 @@ pub trait Listener {
         ensures told { Accepts (told self.old) (told self.new) result }
         ensures cause { Charges faults self.old self.new (IsErr result) };
 
-    /// Takes a connection back that was served.
+    /// Takes a connection back that was served. It counts no fault.
     fn finish(&mut self, source: Self::A, sink: Self::B, end: Self::E)
         requires { MayFinish (told self.old) }
         ensures told { Finishes (told self.old) (told self.new) source sink end }
-        ensures later { faults self.old ≤ faults self.new };
+        ensures calm { faults self.new ≡ faults self.old };
 }
