@@ -2,7 +2,7 @@
 ghost use Rattle.std.specs.Prelude.{◌≡◌, ◌+◌, ◌^◌, ◌≤◌, ◌&&◌, false, is_some, length};
 ghost use Rattle.std.specs.Option.{ForSome};
 ghost use Rattle.shared_image.specs.Turns.{seat_port, IsIdleSeat};
-ghost use Rattle.image_control.specs.Seats.{IsSeatOf};
+ghost use Rattle.image_control.specs.Seats.{IsSeatOf, HasCounted};
 
 use crate::committing::commit;
 use crate::warming::warm;
@@ -54,10 +54,14 @@ impl<'a, D: Disk, S: Shelf, R: Wait> ControlSeat<'a, D, S, R> {
     /// The seat and the shelf.
     pub fn into_parts(self) -> (ImageSeat<D>, S)
         ensures seat { IsSeatOf (⟦<ControlSeat<'a, D, S, R> as ControlPort>⟧.state self.entry) result.0 }
+        ensures faults { HasCounted (⟦<ControlSeat<'a, D, S, R> as ControlPort>⟧.state self.entry) result.0
+            (S.faults result.1) }
         ensures count { S.count result.1 ≡ length (⟦<ControlSeat<'a, D, S, R> as ControlPort>⟧.state
             self.entry).base.lowers }
         ensures told { ForSome (S.files result.1) (λ files.
             files ≡ (⟦<ControlSeat<'a, D, S, R> as ControlPort>⟧.state self.entry).base.lowers) }
+        ensures tells { (⟦<ControlSeat<'a, D, S, R> as ControlPort>⟧.state self.entry).tells
+            ≡ (D.tells && is_some (S.files result.1)) }
     {
         let ControlSeat {
             rt: _,
