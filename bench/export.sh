@@ -8,9 +8,10 @@
 #   - the time from the server's start to the first byte of a read, over 1, 16 and 64 layers (milliseconds: less is better);
 #   - the reads of a client beside another that writes 4 KiB and flushes, again and again, and how long 99 of 100 of them take;
 #   - the most memory that a server had while four connections read and write 32 MiB at a time, with a cache of 64 MiB;
+#   - requests of 4 KiB, one by one, before a commit of the whole image and while it goes on;
 #   - the system calls of each request, by strace, with such a cache that is empty at first.
 # It needs libnbd-bin, qemu-utils, fio, strace and python3, takes nine minutes and 12 GB of temporary room; MIB is the image's size
-# (1024 where it is not said, a multiple of 128). PARTS names what is printed (rates opening beside memory calls). PROGRAM is
+# (1024 where it is not said, a multiple of 128). PARTS names what is printed (rates opening beside memory commit calls). PROGRAM is
 # crates/overlay_tool/out/overlay_tool, as `rt run` leaves it, where none is named.
 set -eu
 top=$(cd "$(dirname "$0")/.." && pwd)
@@ -20,13 +21,13 @@ work=$(mktemp -d)
 trap 'rm -rf "$work"' EXIT
 cd "$work"
 python3 - "$top" "$program" <<'PYTHON'
-import json, os, random, signal, socket, statistics, struct, subprocess, sys, time
+import json, os, random, signal, socket, statistics, struct, subprocess, sys, threading, time
 
 top, program = sys.argv[1:]
 mib = int(os.environ.get('MIB', 1024))
 seconds = os.environ.get('SECONDS_EACH', '4')
 rounds = int(os.environ.get('ROUNDS', 3))
-parts = os.environ.get('PARTS', 'rates opening beside memory calls').split()
+parts = os.environ.get('PARTS', 'rates opening beside memory commit calls').split()
 quiet = dict(check=True, stdout=subprocess.DEVNULL, stderr=subprocess.PIPE)
 draw = random.Random(1)
 
@@ -88,11 +89,16 @@ def open_stream(port):
             return stream, take
 
 
+def ask(stream, take, command, at):
+    """A read, or a write, of 4 KiB."""
+    stream.sendall(struct.pack('>IHHQQI', 0x25609513, 0, command, 1, at, 4096) + bytes(4096 * command))
+    take(16 + 4096 * (1 - command))
+
+
 def read_first(port):
     stream, take = open_stream(port)
     with stream:
-        stream.sendall(struct.pack('>IHHQQI', 0x25609513, 0, 0, 1, 0, 4096))
-        take(16 + 4096)
+        ask(stream, take, 0, 0)
 
 
 class Ours:
@@ -101,12 +107,12 @@ class Ours:
 
     def __init__(self, chain, count):
         files = [f'{chain}-{number}.layer' for number in range(count)]
-        self.port = free_port()
+        self.port, self.control = free_port(), free_port()
         run('rm', '-rf', 'disk')
         os.mkdir('disk')
         with open('image.json', 'w') as config:
             json.dump({'disk': 'disk', 'lowers': {'files': files}, 'cache_blocks': self.cache, 'lanes': 8,
-                       'listen': f'127.0.0.1:{self.port}', 'control': f'127.0.0.1:{free_port()}'}, config)
+                       'listen': f'127.0.0.1:{self.port}', 'control': f'127.0.0.1:{self.control}'}, config)
         run(program, '--config', 'image.json', 'create')
         self.words = [program, '--config', 'image.json', 'export']
 
@@ -243,6 +249,30 @@ def most_memory(kind):
         return read, server.peak()
 
 
+def beside_commit(command):
+    """Requests of 4 KiB, one by one, in a second before a commit of the whole image and while it goes on."""
+    with Served(Ours) as server:
+        fio(server, 'write', '1m', '--iodepth=4')
+        stream, take = open_stream(server.port)
+        def commit():
+            with socket.create_connection(('127.0.0.1', server.kind.control)) as control:
+                control.sendall(b'commit 99999999-1111-1111-1111-111111111111\n')
+                said.append(control.recv(1000))
+        said, told = [], []
+        for other in (threading.Thread(target=time.sleep, args=[1]), threading.Thread(target=commit)):
+            waits, start = [], time.monotonic()
+            other.start()
+            while other.is_alive():
+                before = time.monotonic()
+                ask(stream, take, command, 4096 * draw.randrange(mib << 8))
+                waits.append(time.monotonic() - before)
+            seconds = time.monotonic() - start
+            waits.sort()
+            told.append((len(waits) / seconds, 1000 * waits[len(waits) * 99 // 100], 1000 * waits[-1], seconds))
+        assert said[0].startswith(b'committed'), said
+        return told
+
+
 def calls(kind, way, size, most, *more):
     """The system calls of each request, those with two in a hundred or more."""
     with Served(kind) as server:
@@ -293,6 +323,11 @@ if 'memory' in parts:
     ours, peer = most_memory(Ours), most_memory(Peer)
     line('most memory, four readers of 32 MiB, MiB', ours[0], peer[0])
     line('the same with four writers, MiB', ours[1], peer[1])
+if 'commit' in parts:
+    for name, command in ('reads', 0), ('writes', 1):
+        before, beside_it = beside_commit(command)
+        for when, (each, most, longest, seconds) in ('before a commit', before), (f'while {mib} MiB are committed', beside_it):
+            print(f'{name} of 4 KiB one by one, {when}: {each:.0f} /s, 99 of 100 within {most:.2f} ms, all within {longest:.0f} ms, for {seconds:.1f} s', flush=True)
 if 'calls' in parts:
     print()
     for name, *words in (
