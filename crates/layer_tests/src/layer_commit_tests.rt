@@ -5,12 +5,12 @@ ghost use Rattle.seg_table.specs.declared.segment.What.TheVariants as kind;
 ghost use Rattle.layer_commit.specs.Fitting.{IsFitted};
 ghost use Rattle.layer_commit.specs.Gathered.{EndBy};
 
+use crate::expecting::{holds, holds_at};
 use block_disk::{CrashChoice, Disk, DiskFailed, FileList, MemDisk};
 use layer_commit::Sealing;
 use sector_extent::{Bytes, CallList, Extent};
 use seg_table::{SegTable, What};
 use std::alloc::Global;
-use std::process::Abort;
 use std::test::Fail;
 
 const CHOICES: [CrashChoice; 3] = [CrashChoice::Old, CrashChoice::New, CrashChoice::Torn];
@@ -82,9 +82,7 @@ fn file_of(alloc: Global, case: &Case) -> Result<Vec<u8>, Fail> {
 
 // A disk with the data file alone.
 fn stored_disk(alloc: Global) -> Result<MemDisk, Fail> {
-    let mut data = Vec::new(alloc);
-    push_stored(&mut data, 0, STORED)?;
-    let files = vec![in alloc; (FROM, Bytes::from_vec(data))]?;
+    let files = vec![in alloc; (FROM, Bytes::from_vec(stored(alloc)?))]?;
     Ok(MemDisk::of(alloc, FileList::from_vec(files))?)
 }
 
@@ -96,12 +94,7 @@ fn bytes_of(alloc: Global, disk: &mut MemDisk, file: u32) -> Result<Vec<u8>, Fai
 }
 
 // Sets one run.
-fn set(
-    rt: &impl Abort,
-    table: &mut SegTable,
-    sectors: u64,
-    run: &(u64, u64, What),
-) -> Result<(), Fail>
+fn set(table: &mut SegTable, sectors: u64, run: &(u64, u64, What)) -> Result<(), Fail>
     requires within { EndBy sectors (cells_of table.old) }
     requires low { (i place : ℕ) → cells_of table.old i ≡ Some (kind.Place place) → place < 640 }
     ensures within { EndBy sectors (cells_of table.new) }
@@ -109,9 +102,13 @@ fn set(
 {
     let (at, count, what) = *run;
     let extent = Extent::new(at, count).ok_or("extent")?;
-    assert!(rt; extent.count > 0 && extent.end() <= sectors);
+    if extent.count == 0 || extent.end() > sectors {
+        return Err(Fail::from("another extent"));
+    }
     if let What::Place(place) = what {
-        assert!(rt; place <= STORED && count <= STORED && place + count <= STORED);
+        if place > STORED || count > STORED || place + count > STORED {
+            return Err(Fail::from("no such sectors"));
+        }
     }
     table.reserve(1)?;
     table.put(extent, what);
@@ -119,15 +116,19 @@ fn set(
 }
 
 // A sealing of which nothing is written.
-fn begun(rt: &impl Abort, alloc: Global, disk: &mut MemDisk, case: &Case) -> Result<Sealing, Fail>
+fn begun(alloc: Global, disk: &mut MemDisk, case: &Case) -> Result<Sealing, Fail>
     ensures { IfOk result (IsFitted true (mem_state disk.new)) }
 {
-    assert!(rt; 0 < case.sectors && case.sectors <= 1 << 23);
+    if case.sectors == 0 || case.sectors > 1 << 23 {
+        return Err(Fail::from("another size"));
+    }
     let mut table = SegTable::new(alloc);
     for run in case.runs {
-        set(rt, &mut table, case.sectors, run)?;
+        set(&mut table, case.sectors, run)?;
     }
-    assert_eq!(rt; disk.size(FROM), Ok(512 * STORED));
+    if disk.size(FROM)? != 512 * STORED {
+        return Err(Fail::from("other data"));
+    }
     let sealing = Sealing::begin(
         alloc,
         &table,
@@ -142,48 +143,56 @@ fn begun(rt: &impl Abort, alloc: Global, disk: &mut MemDisk, case: &Case) -> Res
 }
 
 // Writes all pieces, of which there are four at most, and completes.
-fn seal<D: Disk>(rt: &impl Abort, sealing: &mut Sealing, disk: &mut D) -> Result<(), DiskFailed>
+fn seal<D: Disk>(sealing: &mut Sealing, disk: &mut D) -> Result<(), DiskFailed>
     requires fits { IsFitted D.tells (D.state disk.old) sealing.old }
     ensures fits { IsFitted D.tells (D.state disk.new) sealing.new }
 {
     for _ in 0..4 {
         sealing.copy_some(disk)?;
     }
-    assert_eq!(rt; sealing.done(), sealing.total());
+    if sealing.done() != sealing.total() {
+        return Err(DiskFailed);
+    }
     sealing.complete(disk)
 }
 
-// What is sealed and then left by a crash is the file of the format.
-fn test_case(rt: &impl Abort, alloc: Global, case: &Case) -> Result<(), Fail> {
+// Whether none of a file of so many bytes is written yet, and it has so many rows.
+fn is_begun(sealing: &Sealing, length: usize, rows: usize) -> bool {
+    sealing.done() == 0
+        && sealing.total() == length.div_ceil(131_072) as u64
+        && sealing.layer().rows().len() == rows
+}
+
+// Whether what is sealed and then left by a crash is the file of the format.
+fn is_sealed(alloc: Global, case: &Case) -> Result<bool, Fail> {
     let mut disk = stored_disk(alloc)?;
     let wanted = file_of(alloc, case)?;
-    let mut sealing = begun(rt, alloc, &mut disk, case)?;
-    assert_eq!(rt; sealing.done(), 0);
-    assert_eq!(rt; sealing.total(), wanted.len().div_ceil(131_072) as u64);
-    assert_eq!(rt; sealing.layer().rows().len(), case.rows.len());
-    seal(rt, &mut sealing, &mut disk)?;
-    assert_eq!(rt; bytes_of(alloc, &mut disk, TO)?, wanted);
+    let mut sealing = begun(alloc, &mut disk, case)?;
+    if !is_begun(&sealing, wanted.len(), case.rows.len()) {
+        return Ok(false);
+    }
+    seal(&mut sealing, &mut disk)?;
+    let is_whole = sealing.done() == sealing.total();
+    let made = bytes_of(alloc, &mut disk, TO)?;
     let mut left = disk.crash(CrashChoice::Old)?;
-    assert_eq!(rt; bytes_of(alloc, &mut left, TO)?, wanted);
+    let kept = bytes_of(alloc, &mut left, TO)?;
     let layer = sealing.into_layer();
-    assert_eq!(rt; layer.head().version, case.version as u32);
-    Ok(())
+    let is_version = layer.head().version == case.version as u32;
+    Ok(is_whole && is_version && made == wanted && kept == wanted)
 }
 
 // Nothing, two tables of eight sectors, and a run of zeros that takes two rows in a layer over a shorter
 // one.
-#[test]
-fn small_tables_are_sealed(rt: HostRuntime) -> Result<(), Fail> {
-    let empty = Case {
+const SMALL: [Case<'static>; 4] = [
+    Case {
         sectors: 4,
         below: 4,
         runs: &[],
         version: 1,
         rows: &[],
         data: &[],
-    };
-    test_case(&rt, rt.alloc(), &empty)?;
-    let eight = Case {
+    },
+    Case {
         sectors: 8,
         below: 8,
         runs: &[
@@ -195,10 +204,9 @@ fn small_tables_are_sealed(rt: HostRuntime) -> Result<(), Fail> {
         version: 1,
         rows: &[(1, 3, 8, 0), (4, 2, 0, 1), (7, 1, 11, 0)],
         data: &[(10, 13), (8, 9)],
-    };
-    test_case(&rt, rt.alloc(), &eight)?;
-    // three sectors are written, the second of them anew, and the third is made zeros
-    let written = Case {
+    },
+    // Three sectors are written, the second of them anew, and the third is made zeros.
+    Case {
         sectors: 8,
         below: 8,
         runs: &[
@@ -209,17 +217,23 @@ fn small_tables_are_sealed(rt: HostRuntime) -> Result<(), Fail> {
         version: 1,
         rows: &[(3, 2, 8, 0), (5, 1, 0, 1)],
         data: &[(8, 9), (11, 12)],
-    };
-    test_case(&rt, rt.alloc(), &written)?;
-    let zeros = Case {
+    },
+    Case {
         sectors: 20_000,
         below: 4,
         runs: &[(5, 16_390, What::Zero), (19_999, 1, What::Place(8))],
         version: 2,
         rows: &[(5, 16_383, 0, 1), (16_388, 7, 0, 1), (19_999, 1, 8, 0)],
         data: &[(8, 9)],
-    };
-    test_case(&rt, rt.alloc(), &zeros)
+    },
+];
+
+#[test]
+fn small_tables_are_sealed(rt: HostRuntime) -> Result<(), Fail> {
+    for (number, case) in SMALL.iter().enumerate() {
+        holds_at(&rt, is_sealed(rt.alloc(), case)?, "table", number);
+    }
+    Ok(())
 }
 
 // Two runs that lie together in the data file and apart in the image, zeros and a hole between them,
@@ -244,10 +258,7 @@ const LARGE: Case<'static> = Case {
 };
 
 // Rows and data across the borders of pieces.
-#[test]
-fn large_tables_are_sealed(rt: HostRuntime) -> Result<(), Fail> {
-    let alloc = rt.alloc();
-    test_case(&rt, alloc, &LARGE)?;
+fn is_scattered_sealed(alloc: Global) -> Result<bool, Fail> {
     let mut runs = Vec::new(alloc);
     let mut rows = Vec::new(alloc);
     let mut data = Vec::new(alloc);
@@ -264,7 +275,14 @@ fn large_tables_are_sealed(rt: HostRuntime) -> Result<(), Fail> {
         rows: rows.as_slice(),
         data: data.as_slice(),
     };
-    test_case(&rt, alloc, &scattered)
+    is_sealed(alloc, &scattered)
+}
+
+#[test]
+fn large_tables_are_sealed(rt: HostRuntime) -> Result<(), Fail> {
+    holds(&rt, is_sealed(rt.alloc(), &LARGE)?, "three pieces");
+    holds(&rt, is_scattered_sealed(rt.alloc())?, "scattered sectors");
+    Ok(())
 }
 
 // A file of two pieces, whose data are two parts of the data file.
@@ -306,35 +324,49 @@ fn name_call(
 }
 
 // What a crash leaves after a sealing of which that call failed, and which went on where the disk did.
-fn left_after(
-    rt: &impl Abort,
-    alloc: Global,
-    call: u64,
-    stops: bool,
-    choice: CrashChoice,
-) -> Result<MemDisk, Fail> {
+fn left_after(alloc: Global, call: u64, stops: bool, choice: CrashChoice) -> Result<MemDisk, Fail> {
     let mut disk = stored_disk(alloc)?;
-    let mut sealing = begun(rt, alloc, &mut disk, &MIDDLE)?;
+    let mut sealing = begun(alloc, &mut disk, &MIDDLE)?;
     name_call(alloc, &mut disk, &sealing, call, stops)?;
-    let sealed = seal(rt, &mut sealing, &mut disk);
-    assert_eq!(rt; sealed.is_ok(), call == CALLS, "call {call}");
-    if !stops && sealed.is_err() {
-        seal(rt, &mut sealing, &mut disk)?;
+    let is_done = seal(&mut sealing, &mut disk).is_ok();
+    if is_done != (call == CALLS) {
+        return Err(Fail::from("another call failed"));
+    }
+    if !stops && !is_done {
+        seal(&mut sealing, &mut disk)?;
     }
     Ok(disk.crash(choice)?)
 }
 
 // Seals the table again, over whatever is left, and then lets the disk crash.
-fn sealed_anew(
-    rt: &impl Abort,
-    alloc: Global,
-    disk: MemDisk,
-    choice: CrashChoice,
-) -> Result<MemDisk, Fail> {
+fn sealed_anew(alloc: Global, disk: MemDisk, choice: CrashChoice) -> Result<MemDisk, Fail> {
     let mut disk = disk;
-    let mut sealing = begun(rt, alloc, &mut disk, &MIDDLE)?;
-    seal(rt, &mut sealing, &mut disk)?;
+    let mut sealing = begun(alloc, &mut disk, &MIDDLE)?;
+    seal(&mut sealing, &mut disk)?;
     Ok(disk.crash(choice)?)
+}
+
+// What is left of both files after that call failed, once the table is sealed, anew where the disk
+// stopped before.
+fn both_files(
+    alloc: Global,
+    call: u64,
+    stops: bool,
+    choice: CrashChoice,
+) -> Result<(Vec<u8>, Vec<u8>), Fail> {
+    let mut left = left_after(alloc, call, stops, choice)?;
+    let data = bytes_of(alloc, &mut left, FROM)?;
+    if stops && call < CALLS {
+        left = sealed_anew(alloc, left, choice)?;
+    }
+    Ok((data, bytes_of(alloc, &mut left, TO)?))
+}
+
+// The data file as it stood.
+fn stored(alloc: Global) -> Result<Vec<u8>, Fail> {
+    let mut data = Vec::new(alloc);
+    push_stored(&mut data, 0, STORED)?;
+    Ok(data)
 }
 
 // Each call in turn fails, and then the sealing goes on; or it is the last before a crash, after which
@@ -342,19 +374,12 @@ fn sealed_anew(
 #[test]
 fn each_call_of_a_sealing_fails(rt: HostRuntime) -> Result<(), Fail> {
     let alloc = rt.alloc();
-    let wanted = file_of(alloc, &MIDDLE)?;
-    let mut untouched = stored_disk(alloc)?;
-    let stored = bytes_of(alloc, &mut untouched, FROM)?;
+    let wanted = (stored(alloc)?, file_of(alloc, &MIDDLE)?);
     for call in 0..CALLS + 1 {
         for choice in CHOICES {
             for stops in [true, false] {
-                let mut left = left_after(&rt, alloc, call, stops, choice)?;
-                assert_eq!(rt; bytes_of(alloc, &mut left, FROM)?, stored);
-                if stops && call < CALLS {
-                    left = sealed_anew(&rt, alloc, left, choice)?;
-                }
-                let bytes = bytes_of(alloc, &mut left, TO)?;
-                assert_eq!(rt; bytes, wanted, "call {call}, {choice:?}, {stops}");
+                let files = both_files(alloc, call, stops, choice)?;
+                holds_at(&rt, files == wanted, "call", call as usize);
             }
         }
     }

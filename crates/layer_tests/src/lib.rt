@@ -2,6 +2,8 @@
 #![tactic(auto)]
 
 #[cfg(test)]
+mod expecting;
+#[cfg(test)]
 mod layer_commit_tests;
 #[cfg(test)]
 mod merged_index_tests;

@@ -1,5 +1,6 @@
 ghost use Rattle.std.specs.Prelude.{◌≡◌, ◌+◌, ◌^◌, ◌<◌, ◌≤◌, length};
 
+use crate::expecting::{holds, holds_at};
 use crate::plain::plain_cell;
 use layer_shelf::{MemShelf, Shelf};
 use lsmt_header::{Head, Kind, Tag, encode_block};
@@ -19,7 +20,7 @@ const LAYERS: u64 = 16;
 
 const MOST: usize = 6;
 
-const SHELVES: u64 = 100;
+const SHELVES: usize = 100;
 
 const STACKS: u64 = 100;
 
@@ -38,16 +39,25 @@ fn row(offset: u64, count: u32, place: u64) -> Row {
     }
 }
 
-fn zeros(offset: u64, count: u32) -> Row {
-    Row {
-        zeroed: true,
-        ..row(offset, count, 0)
+fn push_block(file: &mut Vec<u8>, head: &Head) -> Result<(), Fail> {
+    if !head.is_valid() {
+        return Err(Fail::from("no head"));
     }
+    file.extend_from_slice(&encode_block(head))?;
+    Ok(())
+}
+
+fn push_row(file: &mut Vec<u8>, row: &Row) -> Result<(), Fail> {
+    if !row.fits() {
+        return Err(Fail::from("no row"));
+    }
+    file.extend_from_slice(&encode(row))?;
+    Ok(())
 }
 
 // The file of a layer of 16 sectors with these rows. It has four sectors of data, from place 8 on:
 // the first one of this byte, and the others of the next ones.
-fn layer_file(rt: &impl Abort, alloc: Global, byte: u8, rows: &[Row]) -> Result<Vec<u8>, Fail> {
+fn layer_file(alloc: Global, byte: u8, rows: &[Row]) -> Result<Vec<u8>, Fail> {
     let head = Head {
         version: 1,
         kind: Kind::SealedHead,
@@ -56,71 +66,94 @@ fn layer_file(rt: &impl Abort, alloc: Global, byte: u8, rows: &[Row]) -> Result<
         sectors: 16,
         uuid: [0x11; 16],
         parent: [0; 16],
-        tag: Tag::new(b"").ok_or("tag")?,
+        tag: Tag::empty(),
     };
-    let end = Head {
-        kind: Kind::SealedEnd,
-        ..head
-    };
-    assert!(rt; head.is_valid() && end.is_valid());
-    let mut file = encode_block(&head).to_vec(alloc)?;
+    let mut file = Vec::new(alloc);
+    push_block(&mut file, &head)?;
     for number in 0..4u8 {
         file.extend_from_slice(&[byte.wrapping_add(number); 512])?;
     }
     for row in rows {
-        assert!(rt; row.fits());
-        file.extend_from_slice(&encode(row))?;
+        push_row(&mut file, row)?;
     }
     file.resize(8_192, 0)?;
-    file.extend_from_slice(&encode_block(&end))?;
+    let end = Head {
+        kind: Kind::SealedEnd,
+        ..head
+    };
+    push_block(&mut file, &end)?;
     Ok(file)
 }
 
-fn shelf_of(rt: &impl Abort, alloc: Global, files: Vec<Bytes>) -> MemShelf {
-    assert!(rt; files.len() <= LAYERS as usize);
-    MemShelf::new(
+fn shelf_of(alloc: Global, files: Vec<Bytes>) -> Result<MemShelf, Fail> {
+    if files.len() > LAYERS as usize {
+        return Err(Fail::from("too many files"));
+    }
+    Ok(MemShelf::new(
         FileTexts::from_vec(files),
         CallList::from_vec(Vec::new(alloc)),
-    )
+    ))
 }
 
-fn layers_of(rt: &impl Abort, alloc: Global, shelf: &mut MemShelf) -> Result<Vec<Layer>, Fail> {
+// The layer of a file, if there is such a file.
+fn read_at(alloc: Global, shelf: &mut MemShelf, k: u32) -> Result<Layer, Fail> {
+    if k >= shelf.count() {
+        return Err(Fail::from("no file"));
+    }
+    Ok(read_layer(alloc, shelf, k)?)
+}
+
+fn layers_of(alloc: Global, shelf: &mut MemShelf) -> Result<Vec<Layer>, Fail> {
     let mut layers = Vec::new(alloc);
     for k in 0..shelf.count() {
-        assert!(rt; k < shelf.count());
-        layers.push(read_layer(alloc, shelf, k)?)?;
+        layers.push(read_at(alloc, shelf, k)?)?;
     }
     Ok(layers)
 }
 
+const ZEROS: Row = Row {
+    offset: 0,
+    count: 1,
+    place: 0,
+    zeroed: true,
+    tag: 0,
+};
+
+const FILLED: Row = Row {
+    offset: 4,
+    count: 1,
+    place: 9,
+    zeroed: false,
+    tag: 0,
+};
+
 // Four layers: sectors 1 and 2, zeros over sector 2, zeros over sector 5, and sectors 4, 6 and 7.
-fn four_layers(rt: &impl Abort, alloc: Global) -> Result<Vec<Layer>, Fail> {
-    let tables: [&[Row]; 4] = [
-        &[row(1, 2, 8)],
-        &[zeros(2, 1)],
-        &[zeros(5, 1)],
-        &[row(4, 1, 9), row(6, 2, 10)],
-    ];
+const TABLES: [&[Row]; 4] = [
+    &[Row {
+        offset: 1,
+        count: 2,
+        place: 8,
+        ..FILLED
+    }],
+    &[Row { offset: 2, ..ZEROS }],
+    &[Row { offset: 5, ..ZEROS }],
+    &[
+        FILLED,
+        Row {
+            offset: 6,
+            count: 2,
+            place: 10,
+            ..FILLED
+        },
+    ],
+];
+
+fn four_layers(alloc: Global) -> Result<Vec<Layer>, Fail> {
     let mut files = Vec::new(alloc);
-    for rows in tables {
-        files.push(Bytes::from_vec(layer_file(rt, alloc, 0x61, rows)?))?;
+    for rows in TABLES {
+        files.push(Bytes::from_vec(layer_file(alloc, 0x61, rows)?))?;
     }
-    layers_of(rt, alloc, &mut shelf_of(rt, alloc, files))
-}
-
-fn piece(at: u64, count: u32, what: PieceWhat) -> Piece
-    requires { at + count ≤ 2 ^ 31 }
-{
-    Piece {
-        extent: Extent { at, count },
-        what,
-    }
-}
-
-fn filled(at: u64, count: u32, layer: u8, place: u64) -> Piece
-    requires { at + count ≤ 2 ^ 31 }
-{
-    piece(at, count, PieceWhat::Filled { layer, place })
+    layers_of(alloc, &mut shelf_of(alloc, files)?)
 }
 
 // Where there are at most two segments, a search looks at most twice, and once more a piece.
@@ -160,45 +193,120 @@ fn first_pieces<L: Ledger>(
 
 fn is_shared<T: Send + Sync>(_value: &T) {}
 
+const HOLE: PieceWhat = PieceWhat::Hole;
+
+const ZERO: PieceWhat = PieceWhat::Zero;
+
+// Where a piece begins, how many sectors it has, and what they are.
+type Parts = (u64, u32, PieceWhat);
+
+const FIRST: [Parts; 4] = [
+    (0, 1, HOLE),
+    (1, 1, PieceWhat::Filled { layer: 0, place: 8 }),
+    (2, 1, ZERO),
+    (3, 1, HOLE),
+];
+
+const FRONT: [Parts; 2] = [
+    (0, 1, HOLE),
+    (1, 1, PieceWhat::Filled { layer: 0, place: 8 }),
+];
+
+const SECOND: [Parts; 3] = [
+    (4, 1, PieceWhat::Filled { layer: 3, place: 9 }),
+    (5, 1, ZERO),
+    (
+        6,
+        2,
+        PieceWhat::Filled {
+            layer: 3,
+            place: 10,
+        },
+    ),
+];
+
+const LAST: [Parts; 1] = [(
+    7,
+    1,
+    PieceWhat::Filled {
+        layer: 3,
+        place: 11,
+    },
+)];
+
+// An extent, as its first sector and their number, the room for pieces, the pieces that are found, and
+// where they end.
+type Search = (u64, u64, usize, &'static [Parts], u64);
+
+// In the index of the first two layers.
+const BELOW: [Search; 2] = [(0, 4, 4, &FIRST, 4), (0, 4, 2, &FRONT, 2)];
+
+// And of all four.
+const WHOLE: [Search; 4] = [
+    (0, 8, 4, &FIRST, 4),
+    (4, 4, 4, &SECOND, 8),
+    (7, 1, 4, &LAST, 8),
+    (8, 0, 4, &[], 8),
+];
+
+fn is_piece(piece: &Piece, parts: &Parts) -> bool {
+    piece.extent.at == parts.0 && piece.extent.count == parts.1 && piece.what == parts.2
+}
+
+// Whether these are the pieces, and behind them was nothing written.
+fn are_pieces(out: &[Piece; 4], wanted: &[Parts]) -> bool {
+    for (number, piece) in out.iter().enumerate() {
+        let is_right = match wanted.get(number) {
+            Some(parts) => is_piece(piece, parts),
+            None => *piece == NOTHING,
+        };
+        if !is_right {
+            return false;
+        }
+    }
+    true
+}
+
+fn search_of(index: &MergedIndex, extent: Extent, room: usize) -> ([Piece; 4], usize, u64)
+    requires { room ≤ 4 }
+{
+    first_pieces::<Brand>(index, extent, room, Blank::new(1))
+}
+
+fn is_found(index: &MergedIndex, search: &Search) -> Result<bool, Fail> {
+    let (at, count, room, wanted, end) = *search;
+    let Some(extent) = Extent::new(at, count) else {
+        return Err(Fail::from("no extent"));
+    };
+    if room > 4 {
+        return Err(Fail::from("more room"));
+    }
+    let (out, pieces, until) = search_of(index, extent, room);
+    Ok(pieces == wanted.len() && until == end && are_pieces(&out, wanted))
+}
+
+fn are_found(rt: &impl Abort, index: &MergedIndex, searches: &[Search]) -> Result<(), Fail> {
+    for (number, search) in searches.iter().enumerate() {
+        holds_at(rt, is_found(index, search)?, "search", number);
+    }
+    Ok(())
+}
+
 #[test]
 fn zeros_hide_what_is_below(rt: HostRuntime) -> Result<(), Fail> {
     index_laws();
-    let layers = four_layers(&rt, rt.alloc())?;
-    assert_eq!(rt; layers.len(), 4);
+    let layers = four_layers(rt.alloc())?;
+    if layers.len() != 4 {
+        return Err(Fail::from("other layers"));
+    }
     let below = merge(rt.alloc(), &layers[..2])?;
     let third = below.over(rt.alloc(), &layers[2], 2)?;
     let whole = third.over(rt.alloc(), &layers[3], 3)?;
-    assert_eq!(rt; (below.len(), third.len(), whole.len()), (2, 3, 5));
+    let segments = [below.len(), third.len(), whole.len()];
+    holds(&rt, segments == [2, 3, 5], "segments");
     is_shared(&whole);
-    let (hole, zero) = (PieceWhat::Hole, PieceWhat::Zero);
-    let first = [
-        piece(0, 1, hole),
-        filled(1, 1, 0, 8),
-        piece(2, 1, zero),
-        piece(3, 1, hole),
-    ];
-    let front = [first[0], first[1], NOTHING, NOTHING];
-    let second = [
-        filled(4, 1, 3, 9),
-        piece(5, 1, zero),
-        filled(6, 2, 3, 10),
-        NOTHING,
-    ];
-    let last = [filled(7, 1, 3, 11), NOTHING, NOTHING, NOTHING];
-    let table = [
-        (&below, Extent { at: 0, count: 4 }, 4, first, 4, 4),
-        (&below, Extent { at: 0, count: 4 }, 2, front, 2, 2),
-        (&whole, Extent { at: 0, count: 8 }, 4, first, 4, 4),
-        (&whole, Extent { at: 4, count: 4 }, 4, second, 3, 8),
-        (&whole, Extent { at: 7, count: 1 }, 4, last, 1, 8),
-        (&whole, Extent { at: 8, count: 0 }, 4, [NOTHING; 4], 0, 8),
-    ];
-    for (index, extent, room, pieces, count, until) in table {
-        assert!(rt; room <= 4);
-        let found = first_pieces::<Brand>(index, extent, room, Blank::new(1));
-        assert!(rt; found == (pieces, count, until), "in {extent:?}");
-    }
-    Ok(())
+    are_found(&rt, &below, &BELOW)?;
+    are_found(&rt, &whole, &WHOLE)
 }
 
 // The next number of a small generator.
@@ -230,24 +338,31 @@ fn drawn_rows(alloc: Global, state: &mut u64) -> Result<Vec<Row>, AllocError> {
     Ok(rows)
 }
 
-fn drawn_shelf(rt: &impl Abort, alloc: Global, state: &mut u64) -> Result<MemShelf, Fail> {
+fn drawn_shelf(alloc: Global, state: &mut u64) -> Result<MemShelf, Fail> {
     let mut files = Vec::new(alloc);
     for number in 0..LAYERS as u8 {
         let rows = drawn_rows(alloc, state)?;
         let byte = number.wrapping_mul(0x10);
-        let file = layer_file(rt, alloc, byte, rows.as_slice())?;
+        let file = layer_file(alloc, byte, rows.as_slice())?;
         files.push(Bytes::from_vec(file))?;
     }
-    Ok(shelf_of(rt, alloc, files))
+    shelf_of(alloc, files)
+}
+
+fn paint(alloc: Global, shelf: &mut MemShelf, k: u32, image: &mut [u8; 8192]) -> Result<(), Fail> {
+    if k >= shelf.count() {
+        return Err(Fail::from("no file"));
+    }
+    let layer = read_layer(alloc, shelf, k)?;
+    paint_part(shelf, k, &layer, 0, image)?;
+    Ok(())
 }
 
 // The first byte of each sector, once the first layers are painted.
-fn painted_bytes(rt: &impl Abort, alloc: Global, shelf: &mut MemShelf) -> Result<[u8; 16], Fail> {
+fn painted_bytes(alloc: Global, shelf: &mut MemShelf) -> Result<[u8; 16], Fail> {
     let mut image = [0; 8192];
     for k in 0..MOST as u32 {
-        assert!(rt; k < shelf.count());
-        let layer = read_layer(alloc, shelf, k)?;
-        paint_part(shelf, k, &layer, 0, &mut image)?;
+        paint(alloc, shelf, k, &mut image)?;
     }
     let mut bytes = [0; 16];
     for number in 0..16usize {
@@ -256,21 +371,23 @@ fn painted_bytes(rt: &impl Abort, alloc: Global, shelf: &mut MemShelf) -> Result
     Ok(bytes)
 }
 
-// The first byte of each sector as the cells name it.
-fn named_bytes(
-    rt: &impl Abort,
-    shelf: &mut MemShelf,
-    cells: &[PieceWhat; 16],
-) -> Result<[u8; 16], Fail> {
+// The first byte of a sector as its cell names it.
+fn named_byte(shelf: &mut MemShelf, cell: PieceWhat) -> Result<u8, Fail> {
+    let PieceWhat::Filled { layer, place } = cell else {
+        return Ok(0);
+    };
+    if layer as u32 >= shelf.count() || place >= 12 {
+        return Err(Fail::from("no such sector"));
+    }
+    let mut byte = [0];
+    shelf.read(layer as u32, 512 * place, &mut byte)?;
+    Ok(byte[0])
+}
+
+fn named_bytes(shelf: &mut MemShelf, cells: &[PieceWhat; 16]) -> Result<[u8; 16], Fail> {
     let mut bytes = [0; 16];
     for number in 0..16usize {
-        if let PieceWhat::Filled { layer, place } = cells[number] {
-            assert!(rt; (layer as u32) < shelf.count());
-            assert!(rt; place < 12);
-            let mut sector = [0; 512];
-            shelf.read(layer as u32, 512 * place, &mut sector)?;
-            bytes[number] = sector[0];
-        }
+        bytes[number] = named_byte(shelf, cells[number])?;
     }
     Ok(bytes)
 }
@@ -286,12 +403,20 @@ fn cell_behind(what: PieceWhat, number: u64) -> PieceWhat {
     }
 }
 
+// Puts the cells of a piece, which is to begin there, and says where it ends.
+fn put_cells(cells: &mut [PieceWhat; 16], piece: &Piece, from: u64) -> Result<u64, Fail> {
+    let end = piece.extent.end();
+    if piece.extent.at != from || end > 16 {
+        return Err(Fail::from("another piece"));
+    }
+    for at in from..end {
+        cells[at as usize] = cell_behind(piece.what, at - from);
+    }
+    Ok(end)
+}
+
 // What the sectors have by the pieces of an index, three at a time.
-fn found_cells<L: Ledger>(
-    rt: &impl Abort,
-    index: &MergedIndex,
-    blank: Blank,
-) -> Result<[PieceWhat; 16], Fail>
+fn found_cells<L: Ledger>(index: &MergedIndex, blank: Blank) -> Result<[PieceWhat; 16], Fail>
     requires name { blank.name ≡ L.name }
     requires parts { blank.parts ≡ L.parts }
     requires some { 0 < blank.parts }
@@ -299,7 +424,7 @@ fn found_cells<L: Ledger>(
     let mut steps = Steps::<L>::new(blank);
     let mut cells = [PieceWhat::Hole; 16];
     let mut out = [NOTHING; 3];
-    let mut from = 0;
+    let mut from: u64 = 0;
     for _ in 0..16 {
         if from >= 16 {
             break;
@@ -307,21 +432,20 @@ fn found_cells<L: Ledger>(
         let extent = Extent::new(from, 16 - from).ok_or("extent")?;
         let found = index.find(extent, &mut out, &mut steps);
         for piece in &out[..found.pieces] {
-            assert_eq!(rt; piece.extent.at, from);
-            from = piece.extent.end();
-            assert!(rt; from <= 16);
-            for at in piece.extent.at..from {
-                cells[at as usize] = cell_behind(piece.what, at - piece.extent.at);
-            }
+            from = put_cells(&mut cells, piece, from)?;
         }
-        assert_eq!(rt; found.until, from);
+        if found.until != from {
+            return Err(Fail::from("another end"));
+        }
     }
-    assert_eq!(rt; from, 16);
+    if from != 16 {
+        return Err(Fail::from("too few pieces"));
+    }
     Ok(cells)
 }
 
-fn index_cells(rt: &impl Abort, index: &MergedIndex) -> Result<[PieceWhat; 16], Fail> {
-    found_cells::<Brand>(rt, index, Blank::new(1))
+fn index_cells(index: &MergedIndex) -> Result<[PieceWhat; 16], Fail> {
+    found_cells::<Brand>(index, Blank::new(1))
 }
 
 // The index of the first so many layers, with the others put over it one by one.
@@ -336,46 +460,70 @@ fn built_up(alloc: Global, layers: &[Layer], cut: usize) -> Result<MergedIndex, 
     Ok(index)
 }
 
-// What the sectors have by an index of the layers, made at once and layer by layer, beside what the
-// plain form says.
-fn compared(
-    rt: &impl Abort,
-    alloc: Global,
-    layers: &[Layer],
-    cut: usize,
-) -> Result<[PieceWhat; 16], Fail>
-    requires cut { cut ≤ length layers.now }
+fn plain_cells(layers: &[Layer]) -> [PieceWhat; 16]
     requires few { length layers.now ≤ 255 }
 {
     let mut plain = [PieceWhat::Hole; 16];
     for sector in 0..16usize {
         plain[sector] = plain_cell(layers, sector as u64);
     }
-    let merged = index_cells(rt, &merge(alloc, layers)?)?;
-    assert!(rt; merged == plain, "merged");
-    let built = index_cells(rt, &built_up(alloc, layers, cut)?)?;
-    assert!(rt; built == plain, "built up from {cut}");
+    plain
+}
+
+// What the sectors have by an index of the layers, made at once and layer by layer, which is what the
+// plain form says.
+fn compared(alloc: Global, layers: &[Layer], cut: usize) -> Result<[PieceWhat; 16], Fail>
+    requires cut { cut ≤ length layers.now }
+    requires few { length layers.now ≤ 255 }
+{
+    let plain = plain_cells(layers);
+    let merged = index_cells(&merge(alloc, layers)?)?;
+    let built = index_cells(&built_up(alloc, layers, cut)?)?;
+    if merged != plain || built != plain {
+        return Err(Fail::from("the plain form says something else"));
+    }
     Ok(plain)
+}
+
+// Whether the layers painted over one another have the bytes that their index names.
+fn agrees_with_painting(
+    alloc: Global,
+    shelf: &mut MemShelf,
+    layers: &[Layer],
+) -> Result<bool, Fail> {
+    if layers.len() != LAYERS as usize {
+        return Err(Fail::from("other layers"));
+    }
+    let cells = compared(alloc, &layers[..MOST], 0)?;
+    let named = named_bytes(shelf, &cells)?;
+    Ok(named == painted_bytes(alloc, shelf)?)
+}
+
+// Compares a stack of some of these layers, two of which change their places before.
+fn compare_some(alloc: Global, layers: &mut Vec<Layer>, state: &mut u64) -> Result<(), Fail> {
+    if layers.len() != LAYERS as usize {
+        return Err(Fail::from("other layers"));
+    }
+    let (one, other) = (draw(state, LAYERS), draw(state, LAYERS));
+    layers.swap(one as usize, other as usize);
+    let count = 1 + draw(state, MOST as u64) as usize;
+    let from = draw(state, LAYERS - MOST as u64) as usize;
+    let cut = draw(state, count as u64) as usize;
+    compared(alloc, &layers[from..from + count], cut)?;
+    Ok(())
 }
 
 #[test]
 fn find_agrees_with_the_plain_form_and_with_painting(rt: HostRuntime) -> Result<(), Fail> {
+    let alloc = rt.alloc();
     let mut state = 1;
     for number in 0..SHELVES {
-        let mut shelf = drawn_shelf(&rt, rt.alloc(), &mut state)?;
-        let mut layers = layers_of(&rt, rt.alloc(), &mut shelf)?;
-        assert_eq!(rt; layers.len(), LAYERS as usize);
-        let cells = compared(&rt, rt.alloc(), &layers[..MOST], 0)?;
-        let named = named_bytes(&rt, &mut shelf, &cells)?;
-        let painted = painted_bytes(&rt, rt.alloc(), &mut shelf)?;
-        assert!(rt; named == painted, "painting the layers of shelf {number}");
+        let mut shelf = drawn_shelf(alloc, &mut state)?;
+        let mut layers = layers_of(alloc, &mut shelf)?;
+        let agrees = agrees_with_painting(alloc, &mut shelf, &layers)?;
+        holds_at(&rt, agrees, "painting the layers of shelf", number);
         for _ in 0..STACKS {
-            let (one, other) = (draw(&mut state, LAYERS), draw(&mut state, LAYERS));
-            layers.swap(one as usize, other as usize);
-            let count = 1 + draw(&mut state, MOST as u64) as usize;
-            let from = draw(&mut state, LAYERS - MOST as u64) as usize;
-            let cut = draw(&mut state, count as u64) as usize;
-            compared(&rt, rt.alloc(), &layers[from..from + count], cut)?;
+            compare_some(alloc, &mut layers, &mut state)?;
         }
     }
     Ok(())
@@ -384,14 +532,15 @@ fn find_agrees_with_the_plain_form_and_with_painting(rt: HostRuntime) -> Result<
 // As many layers as there may be, those of a shelf again and again.
 #[test]
 fn the_most_layers_are_merged(rt: HostRuntime) -> Result<(), Fail> {
-    let mut shelf = drawn_shelf(&rt, rt.alloc(), &mut 2)?;
-    let mut layers = Vec::new(rt.alloc());
+    let alloc = rt.alloc();
+    let mut shelf = drawn_shelf(alloc, &mut 2)?;
+    let mut layers = Vec::new(alloc);
     for number in 0..255u32 {
-        let k = number % LAYERS as u32;
-        assert!(rt; k < shelf.count());
-        layers.push(read_layer(rt.alloc(), &mut shelf, k)?)?;
+        layers.push(read_at(alloc, &mut shelf, number % LAYERS as u32)?)?;
     }
-    assert_eq!(rt; layers.len(), 255);
-    compared(&rt, rt.alloc(), layers.as_slice(), 200)?;
+    if layers.len() != 255 {
+        return Err(Fail::from("other layers"));
+    }
+    compared(alloc, layers.as_slice(), 200)?;
     Ok(())
 }

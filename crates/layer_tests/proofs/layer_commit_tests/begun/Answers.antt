@@ -12,21 +12,21 @@ unfolding table_sheet
 sheet_long n table = length-map-range_with_len (λ i. cell_at [] (cells_of table i)) 0 n
 
 pub loop-run-init : goal.loop-run-init
-loop-run-init g c = record {
+loop-run-init c = record {
   within = λ i le. c.new-table.ensures.cells i;
   low = λ i place is. absurd (let none : cells_of c.new-table.result i ≡ None = c.new-table.ensures.cells i in cc);
 }
 
 pub begin-requires-clause-low : goal.begin-requires-clause-low
-begin-requires-clause-low g c = λ i place is. omega (arith, c.loop-run.invariant.low i place is)
+begin-requires-clause-low c = λ i place is. omega (arith, c.loop-run.invariant.low i place is)
 
 pub begin-requires-clause-few : goal.begin-requires-clause-few
-begin-requires-clause-few g c =
+begin-requires-clause-few c =
     let small : c.args.case.now.sectors ≤ 2 ^ 23 = search rules in
     ([], small-sheet (table_sheet [] c.args.case.now.sectors c.loop-run.table) (omega (arith, small, sheet_long c.args.case.now.sectors c.loop-run.table)))
 
 pub returns : goal.returns
-returns g c =
+returns c =
     let stored : List ℕ = (mem_state c.args.disk.now).seen 11 in
     let long : length stored ≡ 327680 = search rules in
     let b = c.in_ok-sealing.ensures in (
