@@ -1,12 +1,14 @@
+use crate::expecting::{holds, holds_at};
 use block_disk::{Disk, DiskFailed, FolderCalls, FolderDisk, PathText};
 use std::cell::Cell;
 use std::fs::{File, OpenOptions};
 use std::io::ErrorKind;
 use std::os::unix::fs::FileExt;
+use std::process::Abort;
 use std::test::Fail;
 use std::{array, fs, io};
 
-#[derive(Clone, Copy, Debug, PartialEq, Eq)]
+#[derive(Clone, Copy, PartialEq, Eq)]
 enum Call {
     Open,
     LookUp,
@@ -126,7 +128,7 @@ fn fresh_folder(rt: HostRuntime, folder: &str) -> Result<(), Fail> {
     Ok(())
 }
 
-#[derive(Clone, Copy, Debug)]
+#[derive(Clone, Copy)]
 enum Work {
     Write,
     Cut,
@@ -156,41 +158,42 @@ fn go_over<'a>(
 
 const COUNTED: &str = "block_disk_counted";
 
+// What is done to the files from the first to before the second, and how many opens, writes, syncs of
+// files and syncs of the folder there were up to then.
+const STEPS: [(Work, (u32, u32), [u32; 4]); 19] = [
+    (Work::Write, (0, 4), [9, 4, 0, 0]),
+    (Work::Sync, (0, 4), [9, 4, 4, 1]),
+    // A usual flush.
+    (Work::WriteAndSync, (0, 4), [9, 8, 8, 1]),
+    (Work::Sync, (3, 4), [9, 8, 9, 1]),
+    // 256 files are open, of which file 1 was used longest ago.
+    (Work::WriteAndSync, (4, 256), [513, 260, 261, 253]),
+    (Work::WriteAndSync, (0, 1), [513, 261, 262, 253]),
+    (Work::WriteAndSync, (256, 257), [515, 262, 263, 254]),
+    (Work::WriteAndSync, (0, 1), [515, 263, 264, 254]),
+    (Work::WriteAndSync, (1, 2), [516, 264, 265, 254]),
+    // File 0 was used longest ago, but was cut, so file 1 is given up for file 2.
+    (Work::Cut, (0, 1), [516, 264, 265, 254]),
+    (Work::Sync, (1, 2), [516, 264, 266, 254]),
+    (Work::Sync, (3, 257), [516, 264, 520, 254]),
+    (Work::Sync, (2, 3), [517, 264, 521, 254]),
+    (Work::Sync, (0, 1), [517, 264, 522, 254]),
+    // All that are open were written, so one is synced for each that is opened.
+    (Work::Write, (0, 2), [518, 266, 522, 254]),
+    (Work::Write, (4, 257), [518, 519, 522, 254]),
+    (Work::Write, (2, 3), [518, 520, 522, 254]),
+    (Work::Write, (3, 4), [519, 521, 523, 254]),
+    (Work::Sync, (0, 1), [520, 521, 525, 254]),
+];
+
 #[test]
 fn each_sync_is_needed(rt: HostRuntime) -> Result<(), Fail> {
     fresh_folder(rt, COUNTED)?;
     let log = Log::new();
     let mut disk = noted(rt, &log, COUNTED)?;
-    // What is done to the files from the first to before the second, and how many opens, writes,
-    // syncs of files and syncs of the folder there were up to then.
-    let steps = [
-        (Work::Write, (0, 4), [9, 4, 0, 0]),
-        (Work::Sync, (0, 4), [9, 4, 4, 1]),
-        // A usual flush.
-        (Work::WriteAndSync, (0, 4), [9, 8, 8, 1]),
-        (Work::Sync, (3, 4), [9, 8, 9, 1]),
-        // 256 files are open, of which file 1 was used longest ago.
-        (Work::WriteAndSync, (4, 256), [513, 260, 261, 253]),
-        (Work::WriteAndSync, (0, 1), [513, 261, 262, 253]),
-        (Work::WriteAndSync, (256, 257), [515, 262, 263, 254]),
-        (Work::WriteAndSync, (0, 1), [515, 263, 264, 254]),
-        (Work::WriteAndSync, (1, 2), [516, 264, 265, 254]),
-        // File 0 was used longest ago, but was cut, so file 1 is given up for file 2.
-        (Work::Cut, (0, 1), [516, 264, 265, 254]),
-        (Work::Sync, (1, 2), [516, 264, 266, 254]),
-        (Work::Sync, (3, 257), [516, 264, 520, 254]),
-        (Work::Sync, (2, 3), [517, 264, 521, 254]),
-        (Work::Sync, (0, 1), [517, 264, 522, 254]),
-        // All that are open were written, so one is synced for each that is opened.
-        (Work::Write, (0, 2), [518, 266, 522, 254]),
-        (Work::Write, (4, 257), [518, 519, 522, 254]),
-        (Work::Write, (2, 3), [518, 520, 522, 254]),
-        (Work::Write, (3, 4), [519, 521, 523, 254]),
-        (Work::Sync, (0, 1), [520, 521, 525, 254]),
-    ];
-    for (work, files, want) in steps {
-        go_over(&mut disk, work, files)?;
-        assert_eq!(rt; log.totals(), want, "{work:?} {files:?}");
+    for (number, (work, files, totals)) in STEPS.iter().enumerate() {
+        go_over(&mut disk, *work, *files)?;
+        holds_at(&rt, log.totals() == *totals, "step", number);
     }
     fs::remove_dir_all(&rt, COUNTED)?;
     Ok(())
@@ -198,23 +201,33 @@ fn each_sync_is_needed(rt: HostRuntime) -> Result<(), Fail> {
 
 const LOCKED: &str = "block_disk_locked";
 
+// The answers of two disks over one folder, and of the second one when the first is gone.
+fn sizes_of_two(rt: HostRuntime, log: &Log) -> Result<[Result<u64, DiskFailed>; 4], Fail> {
+    let mut first = noted(rt, log, LOCKED)?;
+    let mut second = noted(rt, log, LOCKED)?;
+    let own = first.size(0);
+    let locked = second.size(0);
+    let again = first.size(0);
+    drop(first);
+    Ok([own, locked, again, second.size(0)])
+}
+
 #[test]
 fn a_folder_is_locked(rt: HostRuntime) -> Result<(), Fail> {
     fresh_folder(rt, LOCKED)?;
-    let log = Log::new();
-    let mut first = noted(rt, &log, LOCKED)?;
-    let mut second = noted(rt, &log, LOCKED)?;
-    let sizes = [first.size(0), second.size(0), first.size(0)];
-    assert_eq!(rt; sizes, [Ok(0), Err(DiskFailed), Ok(0)]);
-    drop(first);
-    assert_eq!(rt; second.size(0), Ok(0));
+    let sizes = sizes_of_two(rt, &Log::new())?;
+    holds(
+        &rt,
+        sizes == [Ok(0), Err(DiskFailed), Ok(0), Ok(0)],
+        "the sizes",
+    );
     fs::remove_dir_all(&rt, LOCKED)?;
     Ok(())
 }
 
 const FAILING: &str = "block_disk_failing";
 
-#[derive(Clone, Copy, Debug)]
+#[derive(Clone, Copy)]
 enum Deed {
     Size,
     SizeOfMissing,
@@ -280,35 +293,53 @@ fn written<'a>(rt: HostRuntime, log: &'a Log) -> Result<FolderDisk<NotedCalls<'a
     Ok(disk)
 }
 
+// A call that fails, what is done then, and whether the disk goes on behind it.
+const CASES: [(Call, Deed, bool); 13] = [
+    (Call::Open, Deed::WriteNew, true),
+    (Call::LookUp, Deed::SizeOfMissing, true),
+    (Call::Length, Deed::Size, true),
+    (Call::Read, Deed::Read, true),
+    (Call::Write, Deed::Write, true),
+    (Call::Length, Deed::WriteNothing, true),
+    (Call::SetLength, Deed::WriteNothing, true),
+    (Call::Length, Deed::Cut, true),
+    (Call::SetLength, Deed::Cut, true),
+    (Call::SyncFile, Deed::Sync, false),
+    (Call::SyncFile, Deed::SyncNew, false),
+    (Call::SyncFolder, Deed::SyncNew, false),
+    (Call::SyncFile, Deed::WriteToAll, false),
+];
+
+// Whether the deed fails with that call, and the disk goes on or not.
+fn fails_and_goes_on(
+    rt: HostRuntime,
+    log: &Log,
+    call: Call,
+    deed: Deed,
+    heals: bool,
+) -> Result<bool, Fail> {
+    let mut disk = written(rt, log)?;
+    log.failing.set(Some(call));
+    let failed = do_deed(&mut disk, deed);
+    let on = goes_on(&mut disk, log);
+    let read = do_deed(&mut disk, Deed::Read);
+    Ok(failed == Err(DiskFailed) && on == [heals; 4] && read == Ok(()))
+}
+
+// Whether a new disk over the folder goes on in any case.
+fn goes_on_anew(rt: HostRuntime, log: &Log) -> Result<bool, Fail> {
+    let mut disk = noted(rt, log, FAILING)?;
+    Ok(do_deed(&mut disk, Deed::SyncNew) == Ok(()))
+}
+
 #[test]
 fn each_system_call_fails(rt: HostRuntime) -> Result<(), Fail> {
-    let cases = [
-        (Call::Open, Deed::WriteNew, true),
-        (Call::LookUp, Deed::SizeOfMissing, true),
-        (Call::Length, Deed::Size, true),
-        (Call::Read, Deed::Read, true),
-        (Call::Write, Deed::Write, true),
-        (Call::Length, Deed::WriteNothing, true),
-        (Call::SetLength, Deed::WriteNothing, true),
-        (Call::Length, Deed::Cut, true),
-        (Call::SetLength, Deed::Cut, true),
-        (Call::SyncFile, Deed::Sync, false),
-        (Call::SyncFile, Deed::SyncNew, false),
-        (Call::SyncFolder, Deed::SyncNew, false),
-        (Call::SyncFile, Deed::WriteToAll, false),
-    ];
-    for (call, deed, heals) in cases {
+    for (number, (call, deed, heals)) in CASES.iter().enumerate() {
         fresh_folder(rt, FAILING)?;
         let log = Log::new();
-        let mut disk = written(rt, &log)?;
-        log.failing.set(Some(call));
-        let failed = do_deed(&mut disk, deed);
-        assert_eq!(rt; failed, Err(DiskFailed), "{call:?}, {deed:?}");
-        assert_eq!(rt; goes_on(&mut disk, &log), [heals; 4], "{call:?}, {deed:?}");
-        assert_eq!(rt; do_deed(&mut disk, Deed::Read), Ok(()));
-        drop(disk);
-        let mut again = noted(rt, &log, FAILING)?;
-        assert_eq!(rt; do_deed(&mut again, Deed::SyncNew), Ok(()));
+        let is_right = fails_and_goes_on(rt, &log, *call, *deed, *heals)?;
+        holds_at(&rt, is_right, "a failing call", number);
+        holds_at(&rt, goes_on_anew(rt, &log)?, "a new disk", number);
     }
     fs::remove_dir_all(&rt, FAILING)?;
     Ok(())

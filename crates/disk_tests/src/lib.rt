@@ -4,6 +4,8 @@
 #[cfg(test)]
 mod block_disk_tests;
 #[cfg(test)]
+mod expecting;
+#[cfg(test)]
 mod folder_tests;
 #[cfg(test)]
 mod gate_mark_tests;
