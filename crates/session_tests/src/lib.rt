@@ -6,6 +6,8 @@ mod control_session_examples;
 #[cfg(test)]
 mod control_session_tests;
 #[cfg(test)]
+mod expecting;
+#[cfg(test)]
 mod nbd_session_examples;
 #[cfg(test)]
 mod nbd_session_tests;
