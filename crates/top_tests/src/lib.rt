@@ -2,6 +2,8 @@
 #![tactic(auto)]
 
 #[cfg(test)]
+mod expecting;
+#[cfg(test)]
 mod load_tests;
 #[cfg(test)]
 mod top_writer_tests;

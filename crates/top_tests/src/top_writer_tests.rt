@@ -3,6 +3,7 @@ ghost use Rattle.lsmt_header.specs.Blocks.{IsSize};
 ghost use Rattle.top_writer.specs.Fitting.{IsFitted};
 ghost use Rattle.top_writer.specs.View.{sectors_of, sequence_of};
 
+use crate::expecting::{holds, holds_at};
 use block_disk::{CrashChoice, Disk, MemDisk};
 use gate_mark::Mark;
 use sector_extent::{CallList, Extent, GapList};
@@ -80,7 +81,7 @@ fn two_writes<D: Disk>(alloc: Global, disk: &mut D) -> Result<bool, Fail> {
 }
 
 // Which of the first two sectors a load finds.
-fn held<D: Disk>(rt: &impl Abort, alloc: Global, disk: &mut D) -> Result<(bool, bool), Fail> {
+fn held<D: Disk>(alloc: Global, disk: &mut D) -> Result<(bool, bool), Fail> {
     let Ok(top) = Top::load(alloc, disk, 0, 8, true, Some([0; 16])) else {
         return Err(Fail::from("the files were not loaded"));
     };
@@ -92,26 +93,34 @@ fn held<D: Disk>(rt: &impl Abort, alloc: Global, disk: &mut D) -> Result<(bool, 
     }
     let first = out[0] == 0x61 && out[511] == 0x61;
     let second = out[512] == 0x62 && out[1023] == 0x62;
-    assert_eq!(rt; gaps.as_slice().is_empty(), first && second);
+    if gaps.as_slice().is_empty() != (first && second) {
+        return Err(Fail::from("other gaps"));
+    }
     Ok((first, second))
+}
+
+// Whether a disk that stops at that call behind the making of a top makes all but the second flush, and
+// what a crash leaves.
+fn stop_at(alloc: Global, call: u64, choice: CrashChoice) -> Result<(bool, (bool, bool)), Fail> {
+    let mut disk = MemDisk::new(alloc);
+    disk.stop(MADE + FIRST + call.min(SECOND));
+    let is_whole = two_writes(alloc, &mut disk)?;
+    let mut left = disk.crash(choice)?;
+    Ok((is_whole, held(alloc, &mut left)?))
+}
+
+// The write of the gate is the last call but one.
+fn has_both(call: u64, choice: CrashChoice) -> bool {
+    call == SECOND || call == SECOND - 1 && choice != CrashChoice::Old
 }
 
 #[test]
 fn a_flush_that_is_stopped_keeps_what_was_flushed(rt: HostRuntime) -> Result<(), Fail> {
-    let alloc = rt.alloc();
     for call in 0..SECOND + 1 {
         for choice in CHOICES {
-            let mut disk = MemDisk::new(alloc);
-            disk.stop(MADE + FIRST + call);
-            assert_eq!(rt; two_writes(alloc, &mut disk)?, call == SECOND);
-            let mut left = disk.crash(choice)?;
-            // The write of the gate is the last call but one.
-            let both = call == SECOND || call + 1 == SECOND && choice != CrashChoice::Old;
-            assert_eq!(rt;
-                held(&rt, alloc, &mut left)?,
-                (true, both),
-                "call {call}, {choice:?}"
-            );
+            let found = stop_at(rt.alloc(), call, choice)?;
+            let wanted = (call == SECOND, (true, has_both(call, choice)));
+            holds_at(&rt, found == wanted, "call", call as usize);
         }
     }
     Ok(())
@@ -163,23 +172,39 @@ fn flush_twice<D: Disk>(top: &mut Top, disk: &mut D) -> Result<(), Fail>
     }
 }
 
+fn one_call(alloc: Global, call: u64) -> Result<CallList, Fail> {
+    let mut calls = Vec::new(alloc);
+    calls.push(call)?;
+    Ok(CallList::from_vec(calls))
+}
+
+// What a crash leaves where that call behind the making of a top fails.
+fn heal(alloc: Global, call: u64, choice: CrashChoice) -> Result<(bool, bool), Fail> {
+    let mut disk = MemDisk::new(alloc);
+    disk.fail(one_call(alloc, call)?);
+    two_healed(alloc, &mut disk)?;
+    let mut left = disk.crash(choice)?;
+    held(alloc, &mut left)
+}
+
 #[test]
 fn a_later_flush_heals_each_failed_call(rt: HostRuntime) -> Result<(), Fail> {
-    let alloc = rt.alloc();
-    for call in 0..FIRST + SECOND {
+    for call in MADE..MADE + FIRST + SECOND {
         for choice in CHOICES {
-            let mut disk = MemDisk::new(alloc);
-            disk.fail(CallList::from_vec(vec![in alloc; MADE + call]?));
-            two_healed(alloc, &mut disk)?;
-            let mut left = disk.crash(choice)?;
-            assert_eq!(rt;
-                held(&rt, alloc, &mut left)?,
-                (true, true),
-                "call {call}, {choice:?}"
-            );
+            let found = heal(rt.alloc(), call, choice)?;
+            holds_at(&rt, found == (true, true), "call", call as usize);
         }
     }
     Ok(())
+}
+
+// Whether a load whose call of that number fails is refused for that.
+fn is_told(alloc: Global, disk: &mut MemDisk, call: u64) -> Result<bool, Fail> {
+    disk.fail(one_call(alloc, call)?);
+    match Top::load(alloc, disk, 0, 8, false, None) {
+        Ok(_) => Ok(false),
+        Err(fault) => Ok(fault == TopFault::Failed),
+    }
 }
 
 #[test]
@@ -188,12 +213,8 @@ fn each_failed_call_of_a_load_is_told(rt: HostRuntime) -> Result<(), Fail> {
     let mut disk = MemDisk::new(alloc);
     two_writes(alloc, &mut disk)?;
     for call in 0..LOADED {
-        disk.fail(CallList::from_vec(vec![in alloc; call]?));
-        match Top::load(alloc, &mut disk, 0, 8, false, None) {
-            Ok(_) => assert!(rt; false, "call {call}"),
-            Err(fault) => assert_eq!(rt; fault, TopFault::Failed, "call {call}"),
-        }
-        assert_eq!(rt; held(&rt, alloc, &mut disk)?, (true, true));
+        holds_at(&rt, is_told(alloc, &mut disk, call)?, "call", call as usize);
+        holds(&rt, held(alloc, &mut disk)? == (true, true), "both sectors");
     }
     Ok(())
 }
@@ -210,9 +231,8 @@ fn grow<D: Disk>(top: &mut Top, disk: &D, sectors: u64)
     top.grow(sectors);
 }
 
-#[test]
-fn a_top_that_grew_is_loaded_with_its_new_size(rt: HostRuntime) -> Result<(), Fail> {
-    let alloc = rt.alloc();
+// The sectors and what is used of a top that grew, was written at its end and was loaded again.
+fn grown(alloc: Global) -> Result<(u64, (u64, u64)), Fail> {
     let mut disk = MemDisk::new(alloc);
     let mut top = new_top(alloc, &mut disk)?;
     grow(&mut top, &disk, 12);
@@ -226,8 +246,12 @@ fn a_top_that_grew_is_loaded_with_its_new_size(rt: HostRuntime) -> Result<(), Fa
     let Ok(again) = Top::load(alloc, &mut disk, 0, 12, false, None) else {
         return Err(Fail::from("the files were not loaded"));
     };
-    assert_eq!(rt; again.sectors(), 12);
-    assert_eq!(rt; again.used(), (1, 1));
+    Ok((again.sectors(), again.used()))
+}
+
+#[test]
+fn a_top_that_grew_is_loaded_with_its_new_size(rt: HostRuntime) -> Result<(), Fail> {
+    holds(&rt, grown(rt.alloc())? == (12, (1, 1)), "the top");
     Ok(())
 }
 
@@ -258,23 +282,51 @@ fn write<D: Disk>(top: &mut Top, disk: &mut D, extent: Extent, bytes: &[u8]) -> 
     }
 }
 
-// Three sectors, one of them written over, and a zero; it is read and flushed.
-fn three_changes<D: Disk>(rt: &impl Abort, alloc: Global, disk: &mut D) -> Result<(), Fail> {
+// Three sectors, one of them written over, and a zero; it is read and flushed. Whether it is read so.
+fn three_changes<D: Disk>(alloc: Global, disk: &mut D) -> Result<bool, Fail> {
     let mut top = new_top(alloc, disk)?;
     let mut bytes = [0x61; 1_536];
     bytes[512..1_024].fill(0x62);
     bytes[1_024..].fill(0x63);
     write(&mut top, disk, Extent { at: 3, count: 3 }, &bytes)?;
     write(&mut top, disk, Extent { at: 4, count: 1 }, &[0x64; 512])?;
-    assert_eq!(rt; zero(&mut top, disk, 5, 1), Ok(()));
-    assert_eq!(rt; top.used(), (3, 4));
-    check_read(rt, alloc, &top, disk)?;
-    assert_eq!(rt; top.flush(disk), Ok(()));
-    Ok(())
+    zero(&mut top, disk, 5, 1)?;
+    let is_used = top.used() == (3, 4);
+    let is_right = is_read(alloc, &top, disk)?;
+    top.flush(disk)?;
+    Ok(is_used && is_right)
 }
 
-// Reads all eight sectors of that top.
-fn check_read<D: Disk>(rt: &impl Abort, alloc: Global, top: &Top, disk: &mut D) -> Result<(), Fail>
+// Some bytes of the eight sectors, over FF.
+const BYTES: [(usize, u8); 8] = [
+    (1_535, 0xFF),
+    (1_536, 0x61),
+    (2_047, 0x61),
+    (2_048, 0x64),
+    (2_559, 0x64),
+    (2_560, 0),
+    (3_071, 0),
+    (3_072, 0xFF),
+];
+
+fn has_bytes(out: &[u8; 4_096]) -> bool {
+    for (at, byte) in BYTES {
+        if out.get(at) != Some(&byte) {
+            return false;
+        }
+    }
+    true
+}
+
+fn are_gaps(gaps: &[Extent]) -> bool {
+    match gaps {
+        [first, last] => { (first.at, first.count) == (0, 3) && (last.at, last.count) == (6, 2) }
+        _ => false,
+    }
+}
+
+// Whether a read of all eight sectors of that top gives these bytes and gaps.
+fn is_read<D: Disk>(alloc: Global, top: &Top, disk: &mut D) -> Result<bool, Fail>
     requires sectors { sectors_of top.now ≡ 8 }
     requires fits { IsFitted D.tells (D.state disk.old) top.now }
     ensures fits { IsFitted D.tells (D.state disk.new) top.now }
@@ -282,39 +334,34 @@ fn check_read<D: Disk>(rt: &impl Abort, alloc: Global, top: &Top, disk: &mut D) 
     let mut out = [0xFF; 4_096];
     let mut gaps = GapList::from_vec(Vec::new(alloc));
     let extent = Extent { at: 0, count: 8 };
-    assert_eq!(rt; top.read_part(disk, extent, &mut out, &mut gaps), Ok(()));
-    for (at, byte) in [
-        (1_535, 0xFF),
-        (1_536, 0x61),
-        (2_047, 0x61),
-        (2_048, 0x64),
-        (2_559, 0x64),
-        (2_560, 0),
-        (3_071, 0),
-        (3_072, 0xFF),
-    ] {
-        assert_eq!(rt; out[at], byte, "byte {at}");
+    match top.read_part(disk, extent, &mut out, &mut gaps) {
+        Ok(()) => Ok(has_bytes(&out) && are_gaps(gaps.as_slice())),
+        Err(_) => Ok(false),
     }
-    let first = Extent { at: 0, count: 3 };
-    let last = Extent { at: 6, count: 2 };
-    assert_eq!(rt; gaps.as_slice(), &[first, last][..]);
-    Ok(())
+}
+
+// Three rows and four sectors.
+fn body() -> [u8; 48] {
+    let mut body = [0; 48];
+    body[0] = 3;
+    body[8] = 4;
+    body
+}
+
+fn is_marked(disk: &mut MemDisk) -> bool {
+    match Mark::load(disk, 3) {
+        Ok(mark) => mark.get() == body(),
+        Err(_) => false,
+    }
 }
 
 #[test]
 fn three_files_have_their_forms(rt: HostRuntime) -> Result<(), Fail> {
-    let alloc = rt.alloc();
-    let mut disk = MemDisk::new(alloc);
-    three_changes(&rt, alloc, &mut disk)?;
-    assert_eq!(rt; disk.size(1), Ok(6_144));
-    assert_eq!(rt; disk.size(2), Ok(4_144));
-    let mut body = [0; 48];
-    body[0] = 3;
-    body[8] = 4;
-    match Mark::load(&mut disk, 3) {
-        Ok(mark) => assert_eq!(rt; mark.get(), body),
-        Err(_) => assert!(rt; false),
-    }
+    let mut disk = MemDisk::new(rt.alloc());
+    holds(&rt, three_changes(rt.alloc(), &mut disk)?, "the changes");
+    let sizes = [disk.size(1)?, disk.size(2)?];
+    holds(&rt, sizes == [6_144, 4_144], "the lengths");
+    holds(&rt, is_marked(&mut disk), "the mark");
     Ok(())
 }
 
@@ -334,22 +381,27 @@ fn fill_rows<D: Disk>(top: &mut Top, disk: &D) -> Result<(), WriteFault>
     Ok(())
 }
 
-#[test]
-fn a_full_top_refuses(rt: HostRuntime) -> Result<(), Fail> {
-    let alloc = rt.alloc();
+const FULL: WriteFault = WriteFault::Full {
+    rows: 4_194_300,
+    sectors: 0,
+};
+
+// Whether a full top refuses a write of the most sectors, and is as it was.
+fn is_full(alloc: Global) -> Result<bool, Fail> {
     let mut disk = MemDisk::new(alloc);
     let mut top = top_of(alloc, &mut disk, 131_072)?;
-    assert_eq!(rt; fill_rows(&mut top, &disk), Ok(()));
+    fill_rows(&mut top, &disk)?;
     let bytes = vec![in alloc; 0; 33_554_432]?;
     let extent = Extent {
         at: 0,
         count: 65_536,
     };
-    let full = WriteFault::Full {
-        rows: 4_194_300,
-        sectors: 0,
-    };
-    assert_eq!(rt; top.write(&mut disk, extent, bytes.as_slice()), Err(full));
-    assert_eq!(rt; top.used(), (4_194_300, 0));
+    let answer = top.write(&mut disk, extent, bytes.as_slice());
+    Ok(answer == Err(FULL) && top.used() == (4_194_300, 0))
+}
+
+#[test]
+fn a_full_top_refuses(rt: HostRuntime) -> Result<(), Fail> {
+    holds(&rt, is_full(rt.alloc())?, "a full top");
     Ok(())
 }
