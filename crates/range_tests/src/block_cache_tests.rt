@@ -3,9 +3,11 @@ ghost use Rattle.std.specs.Prelude.{◌≡◌, ◌+◌, ◌^◌, ◌<◌, ◌≤
 ghost use Rattle.turn_lock.specs.Locks.{AreSeats};
 ghost use Rattle.block_cache.specs.CacheTurns.{IsIdleSeat};
 
+use crate::expecting::{holds, holds_at};
 use block_cache::*;
 use std::alloc::Global;
 use std::marker::Brand;
+use std::process::Abort;
 use std::sync::Wait;
 use std::test::Fail;
 use turn_lock::{SeatList, Worn};
@@ -41,45 +43,62 @@ fn bring(list: &mut Vec<Key>, key: Key, capacity: usize) -> Result<(), Fail> {
     Ok(())
 }
 
+// Looks a key up in the cache, and in the list. Whether both find the same.
+fn look(cache: &mut Cache, list: &mut Vec<Key>, number: u64) -> Result<bool, Fail> {
+    let key = key_of(number);
+    let mut out = [0xFF];
+    let is_found = cache.look(key, 1, &mut out);
+    if place_of(list.as_slice(), key) == list.len() {
+        return Ok(!is_found && out == [0xFF]);
+    }
+    bring(list, key, 7)?;
+    Ok(is_found && u64::from(out[0]) == number)
+}
+
+fn put(cache: &mut Cache, list: &mut Vec<Key>, number: u8) -> Result<(), Fail> {
+    let key = key_of(u64::from(number));
+    cache.put(key, &[0xEE, number])?;
+    bring(list, key, 7)
+}
+
 #[test]
 fn a_cache_agrees_with_a_plain_list(rt: HostRuntime) -> Result<(), Fail> {
     let mut cache = Cache::new(rt.alloc(), 7)?;
     let mut list = Vec::new(rt.alloc());
     let mut state: u64 = 1;
-    for _ in 0..10_000 {
+    for at in 0..10_000 {
         state = state
             .wrapping_mul(6_364_136_223_846_793_005)
             .wrapping_add(1);
         let number = (state >> 40) % 20;
-        let key = key_of(number);
-        let mut out = [0xFF];
-        let is_in = place_of(list.as_slice(), key) < list.len();
         if (state >> 33) % 2 == 0 {
-            assert_eq!(rt; cache.look(key, 1, &mut out), is_in);
-            assert_eq!(rt; u64::from(out[0]), if is_in { number } else { 0xFF });
-            if is_in {
-                bring(&mut list, key, 7)?;
-            }
+            holds_at(&rt, look(&mut cache, &mut list, number)?, "look", at);
         } else {
-            cache.put(key, &[0xEE, number as u8])?;
-            bring(&mut list, key, 7)?;
+            put(&mut cache, &mut list, number as u8)?;
         }
     }
     Ok(())
 }
 
+// What is found of a key from a place in its block on, and the bytes, over zeros.
+fn looked(cache: &mut Cache, number: u64, from: u8) -> (bool, [u8; 2]) {
+    let mut out = [0; 2];
+    let is_found = cache.look(key_of(number), usize::from(from), &mut out);
+    (is_found, out)
+}
+
 #[test]
 fn a_block_without_the_range_is_not_found_and_comes_first(rt: HostRuntime) -> Result<(), Fail> {
     let mut cache = Cache::new(rt.alloc(), 2)?;
-    let mut out = [0; 2];
     cache.put(key_of(0), &[1, 2])?;
     cache.put(key_of(1), &[3, 4])?;
-    assert!(rt; !cache.look(key_of(0), 1, &mut out));
-    assert_eq!(rt; out, [0; 2]);
+    let lacking = looked(&mut cache, 0, 1);
     cache.put(key_of(2), &[5, 6])?;
-    assert!(rt; cache.look(key_of(0), 0, &mut out));
-    assert_eq!(rt; out, [1, 2]);
-    assert!(rt; !cache.look(key_of(1), 0, &mut out));
+    let first = looked(&mut cache, 0, 0);
+    let second = looked(&mut cache, 1, 0);
+    holds(&rt, lacking == (false, [0, 0]), "a part that is not there");
+    holds(&rt, first == (true, [1, 2]), "the block that came first");
+    holds(&rt, second == (false, [0, 0]), "the block that went");
     Ok(())
 }
 
@@ -132,9 +151,8 @@ fn seats_share_a_cache(rt: HostRuntime) -> Result<(), Fail> {
     let Some(from) = seats.pop() else {
         return Err("a seat")?;
     };
-    let (found, out) = put_and_look(&rt, &cache, from, to)?;
-    assert_eq!(rt; found, [Ok(true), Ok(false)]);
-    assert_eq!(rt; out, [8]);
+    let found = put_and_look(&rt, &cache, from, to)?;
+    holds(&rt, found == ([Ok(true), Ok(false)], [8]), "two looks");
     Ok(())
 }
 
@@ -164,8 +182,7 @@ fn a_shared_cache_wears_out(rt: HostRuntime) -> Result<(), Fail> {
         return Err("a seat")?;
     };
     let answers = put_then_look(&rt, &cache, seat);
-    assert_eq!(rt; answers.0, Ok(()));
-    assert_eq!(rt; answers.1, Err(Worn));
-    assert_eq!(rt; answers.2, Err(PutFault::Worn));
+    let worn = (Ok(()), Err(Worn), Err(PutFault::Worn));
+    holds(&rt, answers == worn, "three turns");
     Ok(())
 }

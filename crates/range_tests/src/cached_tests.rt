@@ -2,6 +2,7 @@
 ghost use Rattle.std.specs.Prelude.{◌≡◌, ◌+◌, ◌^◌, ◌<◌, ◌≤◌, ◌∷◌, [], Some, length, IfOk};
 ghost use Rattle.turn_lock.specs.Locks.{AreSeats};
 
+use crate::expecting::holds_at;
 use block_cache::{Cache, CacheBase, SharedCache};
 use flat_image::Named;
 use layer_shelf::{MemShelf, Shelf, ShelfFailed};
@@ -9,6 +10,7 @@ use range_shelf::*;
 use sector_extent::{Bytes, CallList, FileTexts};
 use std::alloc::Global;
 use std::marker::Brand;
+use std::process::Abort;
 use std::sync::Wait;
 use std::test::Fail;
 use turn_lock::SeatList;
@@ -83,9 +85,10 @@ fn cached<R: Wait>(
     alloc: Global,
     capacity: u32,
     failing: u64,
-) -> Result<([Result<(), ShelfFailed>; 5], [u8; 8]), Fail>
-    requires capacity { (0 < capacity) × (capacity ≤ 16384) }
-{
+) -> Result<([Result<(), ShelfFailed>; 5], [u8; 8]), Fail> {
+    if capacity == 0 || capacity > 16_384 {
+        return Err(Fail::from("another cache"));
+    }
     let shelf = two_blocks(alloc, failing)?;
     let (cache, seats) = started(alloc, capacity, &shelf)?;
     let Some(seat) = seats.into_vec().pop() else {
@@ -101,24 +104,29 @@ fn cached<R: Wait>(
     }
 }
 
+type Answers = [Result<(), ShelfFailed>; 5];
+
+const OK: Result<(), ShelfFailed> = Ok(());
+
+const FAILED: Result<(), ShelfFailed> = Err(ShelfFailed);
+
+// The blocks that the cache has room for, the inner shelf's call that fails, and the answers. A miss
+// makes two calls of the inner shelf: the length and the read.
+const READS: [(u32, u64, Answers); 6] = [
+    (2, 9, [OK, OK, OK, OK, OK]),
+    (2, 4, [OK, OK, OK, OK, OK]),
+    (2, 2, [OK, FAILED, OK, OK, OK]),
+    (1, 4, [OK, OK, FAILED, OK, OK]),
+    (1, 6, [OK, OK, OK, FAILED, OK]),
+    (1, 7, [OK, OK, OK, FAILED, OK]),
+];
+
 #[test]
 fn blocks_in_turn_hit_where_both_have_room(rt: HostRuntime) -> Result<(), Fail> {
-    let ok = Ok(());
-    let failed = Err(ShelfFailed);
-    // a miss makes two calls of the inner shelf: the length and the read
-    let table = [
-        (2, 9, [ok, ok, ok, ok, ok]),
-        (2, 4, [ok, ok, ok, ok, ok]),
-        (2, 2, [ok, failed, ok, ok, ok]),
-        (1, 4, [ok, ok, failed, ok, ok]),
-        (1, 6, [ok, ok, ok, failed, ok]),
-        (1, 7, [ok, ok, ok, failed, ok]),
-    ];
-    for (capacity, failing, answers) in table {
-        let (found, out) = cached(&rt, rt.alloc(), capacity, failing)?;
-        assert_eq!(rt; found, answers, "{capacity} blocks, call {failing}");
-        let [_, _, _, _, a, b, c, d] = out;
-        assert_eq!(rt; [a, b, c, d], [1, 1, 2, 2]);
+    for (number, (capacity, failing, answers)) in READS.iter().enumerate() {
+        let (found, out) = cached(&rt, rt.alloc(), *capacity, *failing)?;
+        holds_at(&rt, found == *answers, "answers", number);
+        holds_at(&rt, out.ends_with(&[1, 1, 2, 2]), "bytes", number);
     }
     Ok(())
 }

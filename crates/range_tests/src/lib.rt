@@ -6,7 +6,11 @@ mod block_cache_tests;
 #[cfg(test)]
 mod cached_tests;
 #[cfg(test)]
+mod expecting;
+#[cfg(test)]
 mod http_range_tests;
+#[cfg(test)]
+mod noted_link;
 #[cfg(test)]
 mod range_tests;
 #[cfg(test)]
