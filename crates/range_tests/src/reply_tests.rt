@@ -155,18 +155,21 @@ const REPLIES: [(&[u8], usize, Fetched); 26] = [
         NOT_PARTIAL,
     ),
     (
-        b"HTTP/1.1 206 P\r\nTransfer-Encoding: chunked\r\nContent-Range: bytes 65536-131071/200000\r\n\r\n",
+        b"HTTP/1.1 206 P\r\nTransfer-Encoding: chunked\r\n\
+          Content-Range: bytes 65536-131071/200000\r\n\r\n",
         SIZE,
         CHUNKED,
     ),
     (
-        b"HTTP/1.1 206 P\r\nTransfer-Encoding: chunked\r\nContent-Range: bytes 65536-131071/200000\r\nContent-Length: 65536\r\n\r\n",
+        b"HTTP/1.1 206 P\r\nTransfer-Encoding: chunked\r\n\
+          Content-Range: bytes 65536-131071/200000\r\nContent-Length: 65536\r\n\r\n",
         SIZE,
         CHUNKED,
     ),
     // Two fields, none, and one of another form.
     (
-        b"HTTP/1.1 206 P\r\nContent-Range: bytes 65536-131071/200000\r\nContent-Range: bytes 65536-131071/200000\r\nContent-Length: 65536\r\n\r\n",
+        b"HTTP/1.1 206 P\r\nContent-Range: bytes 65536-131071/200000\r\n\
+          Content-Range: bytes 65536-131071/200000\r\nContent-Length: 65536\r\n\r\n",
         SIZE,
         NO_RANGE,
     ),
@@ -201,7 +204,8 @@ const REPLIES: [(&[u8], usize, Fetched); 26] = [
         NO_LENGTH,
     ),
     (
-        b"HTTP/1.1 206 P\r\nContent-Range: bytes 65536-131071/200000\r\nContent-Length: 65536\r\nContent-Length: 65536\r\n\r\n",
+        b"HTTP/1.1 206 P\r\nContent-Range: bytes 65536-131071/200000\r\n\
+          Content-Length: 65536\r\nContent-Length: 65536\r\n\r\n",
         SIZE,
         NO_LENGTH,
     ),
