@@ -8,8 +8,12 @@ set -u
 top=$(cd "$(dirname "$0")/.." && pwd)
 program=$(realpath "${1:-$top/crates/overlay_tool/out/overlay_tool}")
 [ -x "$program" ] || { echo "run 'rt run' in crates/overlay_tool first"; exit 1; }
+updated=
 for tool in nbdinfo:libnbd-bin nbdcopy:libnbd-bin qemu-img:qemu-utils qemu-io:qemu-utils fio:fio; do
-  command -v "${tool%%:*}" > /dev/null || apt-get install -y -qq "${tool##*:}" > /dev/null || { echo "no ${tool%%:*}"; exit 1; }
+  command -v "${tool%%:*}" > /dev/null && continue
+  [ -n "$updated" ] || apt-get update -qq
+  updated=yes
+  apt-get install -y -qq "${tool##*:}" > /dev/null || { echo "no ${tool%%:*}"; exit 1; }
 done
 work=$(mktemp -d)
 server=
@@ -117,10 +121,15 @@ says "qemu-io: what was written stands after the commit" qemu-io -f raw -c 'read
 
 # Every write that was flushed is there after the server was killed.
 says "qemu-io: a flushed write" qemu-io -f raw -c 'write -P 0x43 6M 1M' -c 'flush' "$uri"
+says "nbdcopy: what is flushed" nbdcopy "$uri" flushed.raw
 qemu-io -f raw -c 'write -P 0x44 8M 1M' "$uri" > out 2>&1
 stop
 says "start after kill -9" start
-says "qemu-io: every flushed write is found" qemu-io -f raw -c 'read -P 0x43 6M 1M' -c 'read -P 0x41 1M 64k' -c 'read -P 0 2M 1M' "$uri"
+says "qemu-io: every flushed write is found" qemu-io -f raw -c 'read -P 0x43 6M 1M' -c 'read -P 0x41 1M 64k' -c 'read -P 0 2M 1M' \
+  -c 'read -P 0x42 5M 4k' "$uri"
+says "nbdcopy: read after kill -9" nbdcopy "$uri" found.raw
+says "found: all below the write without a flush" cmp -n $((8 << 20)) flushed.raw found.raw
+says "found: all above it" cmp -i $((9 << 20)) flushed.raw found.raw
 stop
 
 # An address that is taken.

@@ -78,7 +78,8 @@ for path in files:
         continue
     text = "\n".join(lines_of(path))
     places = {os.path.join(os.path.dirname(path), it) for it in re.findall(r"\]\(([^)#:\s]+)(?:#[^)]*)?\)", text)}
-    places |= {it for it in re.findall(r"`((?:docs|tools|bench|crates)/[\w./-]+)`", text) if "NAME" not in it and "/out/" not in it}
+    places |= {it for it in re.findall(r"`((?:docs|tools|bench|crates|interop|\.ci)/[\w./-]+)`", text) if "NAME" not in it and "/out/" not in it}
+    places |= {f"crates/{it}" for it in re.findall(r"`(\w+/[\w/]+\.(?:rt|antt))`", text) if it.split("/")[0] in listed}
     faults += [f"{path} names {it}, which is not there" for it in sorted(places) if not os.path.exists(it)]
 
 for it in faults:

@@ -45,6 +45,13 @@ check 2 '' 'usage'
 check 2 '' 'usage' --config=bad.json stack
 check 2 '' 'usage' stack --config bad.json
 check 3 '' 'stack empty' stack
+check 3 '' '' export
+check 2 '' '' export x
+cp first.layer input
+check 0 first.raw '' flatten --stdin
+cp first.raw input
+check 3 '' 'layer 0: short' flatten --stdin
+: > input
 
 # a folder without layers
 mkdir plain
@@ -65,6 +72,22 @@ python3 -c 'import sys; sys.stdout.buffer.write(bytes(1536) + b"c" * 512 + bytes
 check 0 plain.raw '' --config plain.json read 0 8
 echo '{"disk":"nowhere"}' > nowhere.json
 check 4 '' 'disk fault' --config nowhere.json create --sectors 8
+
+# grown, committed, swept
+third=33333333-3333-3333-3333-333333333333
+check 0 'grown 16' '' --config plain.json grow 16
+check 6 '' 'not larger 16' --config plain.json grow 16
+check 2 '' 'usage' --config plain.json commit
+check 0 "committed $third layer 0 bytes 12288" '' --config plain.json commit $third
+check 6 '' 'uuid twice' --config plain.json commit $third
+check 0 'swept 1' '' --config plain.json sweep
+head -c 4096 /dev/zero | cat plain.raw - > grown.raw
+check 0 grown.raw '' --config plain.json read 0 16
+mkdir next
+echo '{"disk":"next","lowers":{"files":["plain/sealed-0"]}}' > next.json
+printf '0 %s sectors 16 rows 2\n' $third > sealed.text
+check 0 sealed.text '' --config next.json stack
+check 0 grown.raw '' --config next.json flatten
 
 # layers in files
 mkdir over
