@@ -1,4 +1,5 @@
 pub mod Numbers
+pub mod HostLaws
 pub mod Naming
 pub mod HeadLaws
 pub mod Carrying

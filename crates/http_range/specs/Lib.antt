@@ -1,4 +1,5 @@
 pub mod Requests
+pub mod Hosts
 pub mod Links
 pub mod RangeReplies
 pub mod Replies

@@ -1,5 +1,6 @@
 //! A link over TCP.
-ghost use Rattle.std.specs.Prelude.{◌≡◌, ◌+◌, ◌<◌, ◌≤◌, None, length, IfOk};
+ghost use Rattle.std.specs.Prelude.{◌≡◌, ◌+◌, ◌<◌, ◌≤◌, ◌↔◌, None, length, IfOk, IsTrue};
+ghost use Rattle.http_range.specs.Hosts.{IsDialed, NamesPort};
 
 use crate::links::{Link, LinkFailed};
 use crate::target::HostText;
@@ -110,7 +111,9 @@ fn connect<R: Net<Stream = TcpStream>>(rt: &R, host: &[u8]) -> Result<TcpStream,
 }
 
 /// The address alone, of an IPv6 address in brackets that no port follows; any other host as it is.
-pub fn host_address(host: &[u8]) -> &[u8] {
+pub fn host_address(host: &[u8]) -> &[u8]
+    ensures { IsDialed host.now result.now }
+{
     match host.strip_prefix(b"[".as_slice()) {
         Some(rest) => match rest.strip_suffix(b"]".as_slice()) {
             Some(address) => address,
@@ -121,12 +124,14 @@ pub fn host_address(host: &[u8]) -> &[u8] {
 }
 
 /// Whether a host names a port: a colon stands behind the last bracket.
-pub fn names_port(host: &[u8]) -> bool {
-    for byte in host.iter().rev() {
-        if *byte == b']' {
+pub fn names_port(host: &[u8]) -> bool
+    ensures { IsTrue result ↔ NamesPort host.now }
+{
+    for at in (0..host.len()).rev() {
+        if host[at] == b']' {
             return false;
         }
-        if *byte == b':' {
+        if host[at] == b':' {
             return true;
         }
     }
