@@ -6,6 +6,8 @@ mod byte_fields_tests;
 #[cfg(test)]
 mod byte_ports_tests;
 #[cfg(test)]
+mod expecting;
+#[cfg(test)]
 mod layer_shelf_tests;
 #[cfg(test)]
 mod layer_stack_tests;

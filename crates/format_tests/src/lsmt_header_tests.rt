@@ -1,7 +1,8 @@
 ghost use Rattle.lsmt_header.specs.Blocks.{IsValid};
 
+use crate::expecting::{holds, holds_at};
 use lsmt_header::*;
-use std::test::*;
+use std::test::Fail;
 
 // The header of a layer of four sectors with one row, whose index begins at 5,120.
 fn layer_head(kind: Kind, tag: Tag) -> Head
@@ -19,99 +20,143 @@ fn layer_head(kind: Kind, tag: Tag) -> Head
     }
 }
 
-#[test]
-fn block_of_a_head(rt: HostRuntime) -> Result<(), Fail> {
-    let head = layer_head(Kind::SealedHead, Tag::new(b"").ok_or("an empty tag")?);
-    assert!(rt; head.is_valid());
-    let block = encode_block(&head);
-    let front: [u8; 24] = [
-        0x4f, 0x42, 0x44, 0x4c, 0x41, 0x59, 0x52, 0x31, 1, 0, 0, 0, 7, 0, 0, 0, 0, 0x14, 0, 0, 0,
-        0, 0, 0,
-    ];
-    assert_eq!(rt; block[..24], front[..]);
-    let behind: [u8; 48] = [
-        1, 0, 0, 0, 0, 0, 0, 0, 4, 0, 0, 0, 0, 0, 0, 0, 0x11, 0x11, 0x11, 0x11, 0x11, 0x11, 0x11,
-        0x11, 0x11, 0x11, 0x11, 0x11, 0x11, 0x11, 0x11, 0x11, 0, 0, 0, 0, 0, 0, 0, 0, 0, 0, 0, 0,
-        0, 0, 0, 0,
-    ];
-    assert_eq!(rt; block[24..72], behind[..]);
-    assert!(rt; block[72..].iter().all(|byte| *byte == 0));
-    assert_eq!(rt; decode_block(&block, Kind::SealedHead), Ok(head));
-    Ok(())
+// What the block of that head begins with.
+const FRONT: [u8; 72] = [
+    0x4f, 0x42, 0x44, 0x4c, 0x41, 0x59, 0x52, 0x31, 1, 0, 0, 0, 7, 0, 0, 0, 0, 0x14, 0, 0, 0, 0, 0,
+    0, 1, 0, 0, 0, 0, 0, 0, 0, 4, 0, 0, 0, 0, 0, 0, 0, 0x11, 0x11, 0x11, 0x11, 0x11, 0x11, 0x11,
+    0x11, 0x11, 0x11, 0x11, 0x11, 0x11, 0x11, 0x11, 0x11, 0, 0, 0, 0, 0, 0, 0, 0, 0, 0, 0, 0, 0, 0,
+    0, 0,
+];
+
+// Whether the block begins so, with zeros behind.
+fn is_spelled(block: &[u8; 4096]) -> bool {
+    let (front, behind) = block.split_at(72);
+    front == FRONT.as_slice() && behind.iter().all(|byte| *byte == 0)
+}
+
+fn is_read_again(kind: Kind, tag: Tag) -> bool {
+    let head = layer_head(kind, tag);
+    decode_block(&encode_block(&head), kind) == Ok(head)
 }
 
 #[test]
-fn tags(rt: HostRuntime) -> Result<(), Fail> {
-    let tag = Tag::new(b"base").ok_or("a short text")?;
-    assert_eq!(rt; tag.as_bytes(), b"base".as_slice());
-    assert!(rt; Tag::new(b"") == Some(Tag::empty()));
-    assert!(rt; Tag::new(&[0x61; 256]).is_some());
-    assert!(rt; Tag::new(&[0x61; 257]).is_none());
-    assert!(rt; Tag::new(b"a\0").is_none());
-    assert!(rt; Tag::new(&[0xff]).is_none());
-    for kind in [Kind::SealedEnd, Kind::TopBytes, Kind::TopRows] {
-        let head = layer_head(kind, tag);
-        assert_eq!(rt;
-            decode_block(&encode_block(&head), kind),
-            Ok(head),
-            "at {kind:?}"
-        );
+fn block_of_a_head(rt: HostRuntime) {
+    let head = layer_head(Kind::SealedHead, Tag::empty());
+    holds(&rt, head.is_valid(), "the head");
+    holds(&rt, is_spelled(&encode_block(&head)), "its block");
+    for kind in [
+        Kind::SealedHead,
+        Kind::SealedEnd,
+        Kind::TopBytes,
+        Kind::TopRows,
+    ] {
+        let empty = is_read_again(kind, Tag::empty());
+        let named = Tag::new(b"base").is_some_and(|tag| is_read_again(kind, tag));
+        holds_at(&rt, empty && named, "kind", kind as usize);
     }
-    Ok(())
 }
 
-// Each row changes bytes of a block, at these places to these values, and says the first fault.
+// A text, and whether a tag can have it.
+const TEXTS: [(&[u8], bool); 6] = [
+    (b"", true),
+    (b"base", true),
+    (&[0x61; 256], true),
+    (&[0x61; 257], false),
+    (b"a\0", false),
+    (&[0xff], false),
+];
+
+#[test]
+fn tags(rt: HostRuntime) {
+    for (number, (text, is_tag)) in TEXTS.iter().enumerate() {
+        let is_right = match Tag::new(text) {
+            Some(tag) => *is_tag && tag.as_bytes() == *text,
+            None => !*is_tag,
+        };
+        holds_at(&rt, is_right, "text", number);
+    }
+    holds(&rt, Tag::new(b"") == Some(Tag::empty()), "the empty tag");
+}
+
+// Bytes of a block of that kind that are changed, at these places to these values, and the fault.
+type Case = (Kind, &'static [(usize, u8)], HeadFault);
+
+// Zeros in place of the uuid.
+const NAMELESS: [(usize, u8); 16] = [
+    (40, 0),
+    (41, 0),
+    (42, 0),
+    (43, 0),
+    (44, 0),
+    (45, 0),
+    (46, 0),
+    (47, 0),
+    (48, 0),
+    (49, 0),
+    (50, 0),
+    (51, 0),
+    (52, 0),
+    (53, 0),
+    (54, 0),
+    (55, 0),
+];
+
+const HEAD: Kind = Kind::SealedHead;
+
+const FAULTS: [Case; 17] = [
+    (HEAD, &[(0, 0x50)], HeadFault::BadMagic),
+    (HEAD, &[(7, 0x32), (8, 2)], HeadFault::BadMagic),
+    (HEAD, &[(8, 3)], HeadFault::BadVersion(3)),
+    (HEAD, &[(9, 1), (12, 15)], HeadFault::BadVersion(257)),
+    (HEAD, &[(12, 15)], HeadFault::Compressed),
+    (HEAD, &[(12, 9), (32, 0)], HeadFault::Compressed),
+    (HEAD, &[(12, 6)], HeadFault::BadFlags(6)),
+    (HEAD, &[(15, 1), (32, 0)], HeadFault::BadFlags(0x0100_0007)),
+    (HEAD, &[(32, 0)], HeadFault::BadSize(0)),
+    (
+        HEAD,
+        &[(32, 1), (35, 0x80), (76, 1)],
+        HeadFault::BadSize(0x8000_0001),
+    ),
+    (HEAD, &[(72, 0xff)], HeadFault::BadTag),
+    (HEAD, &[(74, 0x78), (328, 1)], HeadFault::BadTag),
+    (HEAD, &[(327, 1)], HeadFault::BadTag),
+    (HEAD, &[(328, 1)], HeadFault::Unclean(328)),
+    (HEAD, &[(4_095, 1), (1_000, 2)], HeadFault::Unclean(1_000)),
+    (HEAD, &[(4_095, 0xff)], HeadFault::Unclean(4_095)),
+    (Kind::TopBytes, &[(8, 2), (12, 5)], HeadFault::BadVersion(2)),
+];
+
+// The block of a layer's head with these bytes changed.
+fn changed(tag: Tag, changes: &[(usize, u8)]) -> [u8; 4096] {
+    let mut block = encode_block(&layer_head(Kind::SealedHead, tag));
+    for (at, byte) in changes {
+        if *at < 4_096 {
+            block[*at] = *byte;
+        }
+    }
+    block
+}
+
+// Whether the head of a block with no uuid, and with a tag that is none, is refused for that.
+fn is_nameless(tag: Tag, kind: Kind, flags: u8, fault: HeadFault) -> bool {
+    let mut block = changed(tag, &NAMELESS);
+    block[12] = flags;
+    block[72] = 0xff;
+    decode_block(&block, kind) == Err(fault)
+}
+
 #[test]
 fn first_faults(rt: HostRuntime) -> Result<(), Fail> {
-    let block = encode_block(&layer_head(Kind::SealedHead, Tag::new(b"x").ok_or("a short text")?));
-    let table: [(&[(usize, u8)], HeadFault); 16] = [
-        (&[(0, 0x50)], HeadFault::BadMagic),
-        (&[(7, 0x32), (8, 2)], HeadFault::BadMagic),
-        (&[(8, 3)], HeadFault::BadVersion(3)),
-        (&[(9, 1), (12, 15)], HeadFault::BadVersion(257)),
-        (&[(12, 15)], HeadFault::Compressed),
-        (&[(12, 9), (32, 0)], HeadFault::Compressed),
-        (&[(12, 6)], HeadFault::BadFlags(6)),
-        (&[(15, 1), (32, 0)], HeadFault::BadFlags(0x0100_0007)),
-        (&[(32, 0)], HeadFault::BadSize(0)),
-        (
-            &[(32, 1), (35, 0x80), (76, 1)],
-            HeadFault::BadSize(0x8000_0001),
-        ),
-        (&[(72, 0xff)], HeadFault::BadTag),
-        (&[(74, 0x78), (328, 1)], HeadFault::BadTag),
-        (&[(327, 1)], HeadFault::BadTag),
-        (&[(328, 1)], HeadFault::Unclean(328)),
-        (&[(4_095, 1), (1_000, 2)], HeadFault::Unclean(1_000)),
-        (&[(4_095, 0xff)], HeadFault::Unclean(4_095)),
-    ];
-    for (changes, fault) in table {
-        let mut changed = block;
-        for (at, byte) in changes {
-            assert!(rt; *at < 4_096);
-            changed[*at] = *byte;
-        }
-        assert_eq!(rt; decode_block(&changed, Kind::SealedHead), Err(fault));
+    let tag = Tag::new(b"x").ok_or("a short text")?;
+    for (number, (kind, changes, fault)) in FAULTS.iter().enumerate() {
+        let found = decode_block(&changed(tag, changes), *kind);
+        holds_at(&rt, found == Err(*fault), "fault", number);
     }
-    let mut nameless = block;
-    nameless[40..56].copy_from_slice(&[0; 16]);
-    nameless[72] = 0xff;
-    assert_eq!(rt;
-        decode_block(&nameless, Kind::SealedHead),
-        Err(HeadFault::NilUuid)
-    );
-    let mut taller = block;
-    taller[8] = 2;
-    assert!(rt; decode_block(&taller, Kind::SealedHead).is_ok());
-    taller[12] = 5;
-    assert_eq!(rt;
-        decode_block(&taller, Kind::TopBytes),
-        Err(HeadFault::BadVersion(2))
-    );
-    nameless[12] = 5;
-    assert_eq!(rt;
-        decode_block(&nameless, Kind::TopBytes),
-        Err(HeadFault::BadTag)
-    );
+    let sealed = is_nameless(tag, Kind::SealedHead, 7, HeadFault::NilUuid);
+    let top = is_nameless(tag, Kind::TopBytes, 5, HeadFault::BadTag);
+    holds(&rt, sealed && top, "no uuid");
+    let taller = decode_block(&changed(tag, &[(8, 2)]), Kind::SealedHead);
+    holds(&rt, taller.is_ok(), "version 2");
     Ok(())
 }

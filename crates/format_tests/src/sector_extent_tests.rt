@@ -1,27 +1,27 @@
 ghost use Rattle.std.specs.Prelude.{◌≡◌, ◌<◌};
 
+use crate::expecting::{holds, holds_at};
 use sector_extent::*;
 use std::marker::Brand;
 use std::sync::ledger::{Blank, Ledger};
 use std::test::Fail;
 
+// A place, a number of sectors, and whether an image can have them.
+const EXTENTS: [(u64, u64, bool); 7] = [
+    (0, 0, true),
+    (1 << 31, 0, true),
+    ((1 << 31) - 1, 1, true),
+    (1 << 31, 1, false),
+    (0, 1 << 31, true),
+    (0, (1 << 31) + 1, false),
+    (u64::MAX, 1, false),
+];
+
 #[test]
 fn extents_end_within_an_image(rt: HostRuntime) {
-    let cases = [
-        (0, 0, true),
-        (1 << 31, 0, true),
-        ((1 << 31) - 1, 1, true),
-        (1 << 31, 1, false),
-        (0, 1 << 31, true),
-        (0, (1 << 31) + 1, false),
-        (u64::MAX, 1, false),
-    ];
-    for (at, count, is_made) in cases {
-        assert_eq!(rt;
-            Extent::new(at, count).is_some(),
-            is_made,
-            "at {at}, {count} sectors"
-        );
+    for (number, (at, count, is_made)) in EXTENTS.iter().enumerate() {
+        let is_some = Extent::new(*at, *count).is_some();
+        holds_at(&rt, is_some == *is_made, "extent", number);
     }
 }
 
@@ -29,68 +29,87 @@ fn extents_end_within_an_image(rt: HostRuntime) {
 fn extents_meet(rt: HostRuntime) -> Result<(), Fail> {
     let left = Extent::new(3, 4).ok_or("left")?;
     let right = Extent::new(6, 9).ok_or("right")?;
-    assert_eq!(rt; left.end(), 7);
-    assert_eq!(rt; left.meet(&right), Extent::new(6, 1));
     let beside = Extent::new(7, 9).ok_or("beside")?;
-    assert_eq!(rt; left.meet(&beside), None);
+    holds(&rt, left.end() == 7, "the end");
+    holds(&rt, left.meet(&right) == Extent::new(6, 1), "right");
+    holds(&rt, left.meet(&beside).is_none(), "beside");
     Ok(())
 }
 
 #[test]
 fn lists_give_their_members_back(rt: HostRuntime) -> Result<(), Fail> {
-    let mut bytes = Bytes::from_vec([1].to_vec(rt.alloc())?);
+    let mut bytes = Bytes::from_vec(Vec::from_slice(rt.alloc(), &[1])?);
     bytes.push(2)?;
-    assert_eq!(rt; bytes.as_slice(), [1, 2].as_slice());
-    assert_eq!(rt; bytes.into_vec().as_slice(), [1, 2].as_slice());
+    holds(&rt, bytes.as_slice() == [1, 2].as_slice(), "the bytes");
+    let all = bytes.into_vec();
+    holds(&rt, all.as_slice() == [1, 2].as_slice(), "the vector");
     let gap = Extent::new(5, 2).ok_or("gap")?;
-    let gaps = GapList::from_vec([gap].to_vec(rt.alloc())?);
-    assert_eq!(rt; gaps.as_slice(), [gap].as_slice());
+    let gaps = GapList::from_vec(Vec::from_slice(rt.alloc(), &[gap])?);
+    holds(&rt, gaps.as_slice() == [gap].as_slice(), "the gaps");
     Ok(())
+}
+
+// A place and a number of sectors.
+type Part = (u64, u64);
+
+// What parts an extent of six sectors from 3 on, and what stands before it and behind it.
+const PARTED: [(Part, Option<Part>, Option<Part>); 6] = [
+    ((5, 2), Some((3, 2)), Some((7, 2))),
+    ((0, 4), None, Some((4, 5))),
+    ((8, 9), Some((3, 5)), None),
+    ((0, 20), None, None),
+    ((0, 3), None, Some((3, 6))),
+    ((9, 1), Some((3, 6)), None),
+];
+
+fn part_of(extent: Option<Extent>) -> Option<Part> {
+    extent.map(|e| (e.at, u64::from(e.count)))
 }
 
 #[test]
 fn extents_are_parted_by_another(rt: HostRuntime) -> Result<(), Fail> {
     let whole = Extent::new(3, 6).ok_or("whole")?;
-    let cases = [
-        (5, 2, Extent::new(3, 2), Extent::new(7, 2)),
-        (0, 4, None, Extent::new(4, 5)),
-        (8, 9, Extent::new(3, 5), None),
-        (0, 20, None, None),
-        (0, 3, None, Extent::new(3, 6)),
-        (9, 1, Extent::new(3, 6), None),
-    ];
-    for (at, count, before, after) in cases {
-        let other = Extent::new(at, count).ok_or("other")?;
-        if other.count > 0 {
-            assert_eq!(rt;
-                whole.minus(&other),
-                (before, after),
-                "at {at}, {count} sectors"
-            );
+    for (number, ((at, count), before, behind)) in PARTED.iter().enumerate() {
+        let other = Extent::new(*at, *count).ok_or("other")?;
+        if other.count == 0 {
+            return Err(Fail::from("an empty one"));
         }
+        let (one, two) = whole.minus(&other);
+        let is_right = part_of(one) == *before && part_of(two) == *behind;
+        holds_at(&rt, is_right, "extent", number);
     }
     Ok(())
 }
 
+// A number of sectors, and how many rows map them.
+const ROWS: [(u64, u64); 7] = [
+    (0, 0),
+    (1, 1),
+    (16_383, 1),
+    (16_384, 2),
+    (65_536, 5),
+    (8_388_607, 513),
+    (u64::MAX, 1_125_968_630_513_921),
+];
+
+// The number of a row of 65,536 sectors, and what it maps.
+const PARTS: [(u64, Option<Part>); 4] = [
+    (1, Some((16_383, 16_383))),
+    (4, Some((65_532, 4))),
+    (5, None),
+    (u64::MAX, None),
+];
+
 #[test]
 fn rows_map_parts(rt: HostRuntime) -> Result<(), Fail> {
-    let cases = [
-        (0, 0),
-        (1, 1),
-        (16_383, 1),
-        (16_384, 2),
-        (65_536, 5),
-        (8_388_607, 513),
-        (u64::MAX, 1_125_968_630_513_921),
-    ];
-    for (count, rows) in cases {
-        assert_eq!(rt; rows_needed(count), rows, "{count} sectors");
+    for (number, (count, rows)) in ROWS.iter().enumerate() {
+        holds_at(&rt, rows_needed(*count) == *rows, "sectors", number);
     }
     let whole = Extent::new(0, 65_536).ok_or("whole")?;
-    assert_eq!(rt; whole.row_part(1), Extent::new(16_383, 16_383));
-    assert_eq!(rt; whole.row_part(4), Extent::new(65_532, 4));
-    assert_eq!(rt; whole.row_part(5), None);
-    assert_eq!(rt; whole.row_part(u64::MAX), None);
+    for (row, part) in PARTS.iter() {
+        let is_right = part_of(whole.row_part(*row)) == *part;
+        holds_at(&rt, is_right, "row", *row as usize);
+    }
     Ok(())
 }
 
