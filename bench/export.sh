@@ -7,7 +7,8 @@
 # but where a line says otherwise. Then it prints
 #   - the time from the server's start to the first byte of a read, over 1, 16 and 64 layers (milliseconds: less is better);
 #   - the reads of a client beside another that writes 4 KiB and flushes, again and again, and how long 99 of 100 of them take;
-#   - the most memory that a server had while four connections read and write 32 MiB at a time, with a cache of 64 MiB;
+#   - the most memory that a server had while four connections read and write 32 MiB at a time, with a cache of 64 MiB, and what it
+#     keeps while they stay open;
 #   - requests of 4 KiB, one by one, before a commit of the whole image and while it goes on;
 #   - the system calls of each request, by strace, with such a cache that is empty at first.
 # It needs libnbd-bin, qemu-utils, fio, strace and python3, takes nine minutes and 12 GB of temporary room; MIB is the image's size
@@ -89,10 +90,10 @@ def open_stream(port):
             return stream, take
 
 
-def ask(stream, take, command, at):
-    """A read, or a write, of 4 KiB."""
-    stream.sendall(struct.pack('>IHHQQI', 0x25609513, 0, command, 1, at, 4096) + bytes(4096 * command))
-    take(16 + 4096 * (1 - command))
+def ask(stream, take, command, at, size=4096):
+    """A read, or a write, of 4 KiB or of another size."""
+    stream.sendall(struct.pack('>IHHQQI', 0x25609513, 0, command, 1, at, size) + bytes(size * command))
+    take(16 + size * (1 - command))
 
 
 def read_first(port):
@@ -149,9 +150,9 @@ class Served:
             fields = file.read().rpartition(')')[2].split()
         return (int(fields[11]) + int(fields[12])) * 1e6 / os.sysconf('SC_CLK_TCK')
 
-    def peak(self):
+    def memory(self, kind):
         with open(f'/proc/{self.process.pid}/status') as file:
-            return next(int(line.split()[1]) // 1024 for line in file if line.startswith('VmHWM'))
+            return next(int(line.split()[1]) // 1024 for line in file if line.startswith(kind))
 
 
 def fio_words(server, way, size, *more):
@@ -244,9 +245,26 @@ def most_memory(kind):
         with open(copy, 'wb') as file:
             file.truncate(mib << 20)
         run('nbdcopy', '--connections=4', '--request-size=33554432', server.uri, copy)
-        read = server.peak()
+        read = server.memory('VmHWM')
         run('nbdcopy', '--connections=4', '--request-size=33554432', copy, server.uri)
-        return read, server.peak()
+        return read, server.memory('VmHWM')
+
+
+def kept_memory(kind):
+    """What the server holds while four connections are open, each of which read and wrote 32 MiB at once, and then read 4 KiB."""
+    with Served(kind) as server:
+        streams = [open_stream(server.port) for _ in range(4)]
+        for size in 1 << 25, 4096:
+            for stream, take in streams:
+                ask(stream, take, 0, 0, size)
+        before = server.memory('VmRSS')
+        for command, size in (1, 1 << 25), (0, 4096):
+            for stream, take in streams:
+                ask(stream, take, command, 0, size)
+        after = server.memory('VmRSS')
+        for stream, _ in streams:
+            stream.close()
+        return before, after
 
 
 def beside_commit(command):
@@ -323,6 +341,9 @@ if 'memory' in parts:
     ours, peer = most_memory(Ours), most_memory(Peer)
     line('most memory, four readers of 32 MiB, MiB', ours[0], peer[0])
     line('the same with four writers, MiB', ours[1], peer[1])
+    ours, peer = kept_memory(Ours), kept_memory(Peer)
+    line('memory kept by four open connections that read 32 MiB each, MiB', ours[0], peer[0])
+    line('the same behind writes of 32 MiB each, MiB', ours[1], peer[1])
 if 'commit' in parts:
     for name, command in ('reads', 0), ('writes', 1):
         before, beside_it = beside_commit(command)
