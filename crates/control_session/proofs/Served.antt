@@ -13,9 +13,9 @@ use Rattle.control_session.specs.declared.reading.Found.{Found}
 use Rattle.control_session.specs.Lines.{line_said}
 use Rattle.control_session.specs.Reading.{ReadsLine, StopsReading}
 use Rattle.control_session.specs.Controls.{Answer, Talk, Rest, front, stop, stop_at, past, answered, at_end, one_line, lines}
-use Rattle.control_session.specs.Sessions.{Fits, Ends, ends, Why, Ended, Serves, Went, IsIdle, Answers}
+use Rattle.control_session.specs.Sessions.{Fits, Ends, ends, TellsFaults, Why, Ended, Serves, Went, IsIdle, Answers}
 use Rattle.control_session.proofs.LineLaws.{line-whole, line-last, line-long, line-part, line-none, past-on, past-idle, end-idle, lines-suc, lines-zero}
-use Rattle.control_session.proofs.Parts.{went_trans, went_along, ended_after, ended_along}
+use Rattle.control_session.proofs.Parts.{tells_none, tells_source, tells_sink, went_trans, went_along, ended_after, ended_along}
 
 false_true : false ≡ true → ⊥
 false_true e = cc
@@ -65,7 +65,7 @@ module _ (go : Rest) (idle : IsIdle go) (left left_now : Option (List ℕ)) (rea
   pub stopped : (why : ControlEnd) → StopsReading left left_now reads reads_now why
       → Ended (one_line go) (ends left reads written writes p) (ends left_now reads_now written writes p) why
   stopped why s = elim s.cause [
-    | inl (is, none, at_its_end) ↦
+    | inl (is, none, at_its_end, calm) ↦
         let same = ap (λ l. one_line go true l []) none ∙ line-none go true [] in
         subst (Ended (one_line go) (ends left reads written writes p) (ends left_now reads_now written writes p)) (sym is) (record {
           read = s.bytes;
@@ -76,8 +76,9 @@ module _ (go : Rest) (idle : IsIdle go) (left left_now : Option (List ℕ)) (rea
           fits = subst (λ t. Fits p t.asked [] p) (sym same) refl;
           why = subst (λ t. Why (ends left reads written writes p) (ends left_now reads_now written writes p) true t end.Ended) (sym same)
               (refl, Appends-nil written, (λ e. refl), refl);
+          faults = tells_none calm refl (λ e. cc) (λ e. cc);
         })
-    | inr (inl (is, long)) ↦
+    | inr (inl (is, long, calm)) ↦
         let same = line-long go s.bytes [] s.plain long in
         subst (Ended (one_line go) (ends left reads written writes p) (ends left_now reads_now written writes p)) (sym is) (record {
           read = s.bytes;
@@ -88,6 +89,7 @@ module _ (go : Rest) (idle : IsIdle go) (left left_now : Option (List ℕ)) (rea
           fits = subst (λ t. Fits p t.asked [] p) (sym same) refl;
           why = subst (λ t. Why (ends left reads written writes p) (ends left_now reads_now written writes p) false t end.LongLine) (sym same)
               (refl, Appends-nil written, (λ e. e), refl);
+          faults = tells_none calm refl (λ e. cc) (λ e. cc);
         })
     | inr (inr (is, short, rose)) ↦
         let part = line-part go s.bytes [] s.plain short in
@@ -99,7 +101,8 @@ module _ (go : Rest) (idle : IsIdle go) (left left_now : Option (List ℕ)) (rea
           shut = λ e. absurd (false_true e);
           fits = subst (λ t. Fits p t.asked [] p) (sym part.1) refl;
           why = subst (λ t. Why (ends left reads written writes p) (ends left_now reads_now written writes p) false t end.SourceFault) (sym part.1)
-              (rose, Appends-nil written, refl, refl, refl);
+              (Appends-nil written, refl, refl, refl);
+          faults = tells_source rose refl;
         })
   ]
 
@@ -117,9 +120,9 @@ module _ (go : Rest) (left left_now : Option (List ℕ)) (reads reads_now : ℕ)
       (subst (λ l. Fits p l a.answers q) (sym (ap (λ l. a.asked ++ l) (past-idle t.rest line t.idle closed).1 ∙ append-nil a.asked)) a.fits)
 
   -- the answer was not sent whole
-  pub unsent : Taken go left left_now line closed → Answers line p q text → AppendsFront written written_now text → writes < writes_now
+  pub unsent : Taken go left left_now line closed → Answers line p q text → AppendsFront written written_now text → reads_now ≡ reads → writes < writes_now
       → Ended (one_line go) (ends left reads written writes p) (ends left_now reads_now written_now writes_now q) end.SinkFault
-  unsent t a part rose =
+  unsent t a part calm rose =
       let idle = past-idle t.rest line t.idle closed in
       record {
         read = t.read;
@@ -129,17 +132,18 @@ module _ (go : Rest) (left left_now : Option (List ℕ)) (reads reads_now : ℕ)
         shut = t.shut;
         fits = fits_made t a;
         why = subst (λ s. Why (ends left reads written writes p) (ends left_now reads_now written_now writes_now q) closed s end.SinkFault) (sym (made t a)) (
-          rose,
           record { before = []; last = text; are = ap (λ l. text ∷ l) idle.0; mid = written; sent = Appends-nil written; part = part },
           idle.2,
           idle.3,
         );
+        faults = tells_sink calm rose;
       }
 
   ended_so : (t : Taken go left left_now line closed) (a : Answers line p q text) (rest : Talk) (why : ControlEnd) → past t.rest line closed [] [] ≡ rest
       → Why (ends left reads written writes p) (ends left_now reads_now written_now writes_now q) closed (front (text ∷ []) a.asked rest) why
+      → TellsFaults (ends left reads written writes p) (ends left_now reads_now written_now writes_now q) why
       → Ended (one_line go) (ends left reads written writes p) (ends left_now reads_now written_now writes_now q) why
-  ended_so t a rest why is holds = record {
+  ended_so t a rest why is holds tells = record {
     read = t.read;
     closed = closed;
     answers = a.answers;
@@ -148,29 +152,32 @@ module _ (go : Rest) (left left_now : Option (List ℕ)) (reads reads_now : ℕ)
     fits = fits_made t a;
     why = subst (λ s. Why (ends left reads written writes p) (ends left_now reads_now written_now writes_now q) closed s why)
         (sym (made t a ∙ ap (front (text ∷ []) a.asked) is)) holds;
+    faults = tells;
   }
 
   -- the line was the last one by its word
-  pub quits : Taken go left left_now line closed → Answers line p q text → line ≡ line_is.Quit → Appends written written_now text
+  pub quits : Taken go left left_now line closed → Answers line p q text → line ≡ line_is.Quit → Appends written written_now text → reads_now ≡ reads → writes_now ≡ writes
       → Ended (one_line go) (ends left reads written writes p) (ends left_now reads_now written_now writes_now q) end.Quit
-  quits t a is sent =
+  quits t a is sent calm no_fault =
       ended_so t a (stop_at end.Quit false []) end.Quit (ap (λ l. past t.rest l closed [] []) is)
       (refl, subst (Appends written written_now) (sym (append-nil text)) sent, (λ e. absurd (false_true e)), refl)
+      (tells_none calm no_fault (λ e. cc) (λ e. cc))
 
   -- the input ended behind the line
   pub ends_there : Taken go left left_now line closed → Answers line p q text → (line ≡ line_is.Quit → ⊥) → closed ≡ true → Appends written written_now text
-      → Ended (one_line go) (ends left reads written writes p) (ends left_now reads_now written_now writes_now q) end.Ended
-  ends_there t a other is sent =
+      → reads_now ≡ reads → writes_now ≡ writes → Ended (one_line go) (ends left reads written writes p) (ends left_now reads_now written_now writes_now q) end.Ended
+  ends_there t a other is sent calm no_fault =
       ended_so t a (stop false) end.Ended
       (past-on t.rest line closed [] [] other ∙ ap (λ r. r closed [] []) (t.over is))
       (refl, subst (Appends written written_now) (sym (append-nil text)) sent, (λ e. is), refl)
+      (tells_none calm no_fault (λ e. cc) (λ e. cc))
 
 -- the line was answered, and more may come
 pub goes_on : (go : Rest) (left left_now : Option (List ℕ)) (reads reads_now : ℕ) (written written_now : Option (List ℕ)) (writes writes_now : ℕ) (p q : PortState) (line : Line) (text : List ℕ) (out : List ℕ) (found : Found)
     → length out ≡ 257 → ReadsLine left left_now out found → found.last ≡ false → line ≡ line_said (take found.count out) → Answers line p q text → (line ≡ line_is.Quit → ⊥)
-    → Appends written written_now text → reads ≤ reads_now → writes ≤ writes_now
+    → Appends written written_now text → reads_now ≡ reads → writes_now ≡ writes
     → Went (one_line go) go (ends left reads written writes p) (ends left_now reads_now written_now writes_now q)
-goes_on go left left_now reads reads_now written written_now writes writes_now p q line text out found long got is said a other sent reads_later writes_later =
+goes_on go left left_now reads reads_now written written_now writes writes_now p q line text out found long got is said a other sent reads_calm writes_calm =
     let bytes = take found.count out in
     let size : length bytes ≡ found.count = length-take-le found.count out (omega (arith, got.within)) in
     record {
@@ -181,8 +188,8 @@ goes_on go left left_now reads reads_now written written_now writes writes_now p
       taken = got.whole is;
       sent = subst (Appends written written_now) (sym (append-nil text)) sent;
       fits = a.fits;
-      reads_later = reads_later;
-      writes_later = writes_later;
+      reads_calm = reads_calm;
+      writes_calm = writes_calm;
       goes = λ closed more others.
           ap (λ l. one_line go closed l (a.answers ++ others)) (append_assoc bytes (10 ∷ []) more)
           ∙ line-whole go closed bytes more (a.answers ++ others) got.plain (omega (arith, size, got.within))
@@ -225,6 +232,7 @@ lines_all total done old left reads written writes p all first =
       fits = subst (λ t. Fits p t.asked [] p) (sym same) refl;
       why = subst (λ t. Why (ends left reads written writes p) (ends left reads written writes p) false t end.TooManyLines) (sym same)
           (refl, Appends-nil written, (λ e. absurd (false_true e)), refl);
+      faults = tells_none refl refl (λ e. cc) (λ e. cc);
     })
 
 -- a control that ended was served

@@ -21,5 +21,5 @@ pub record StopsReading (old new : Option (List ℕ)) (before now : ℕ) (end : 
   pub bytes : List ℕ
   pub plain : IsPlain bytes
   pub taken : Consumes old new bytes
-  pub cause : ((end ≡ Ended) × (bytes ≡ []) × IsAtEnd new)
-      ⊎ (((end ≡ LongLine) × (length bytes ≡ 257)) ⊎ ((end ≡ SourceFault) × (length bytes ≤ 256) × (before < now)))
+  pub cause : ((end ≡ Ended) × (bytes ≡ []) × IsAtEnd new × (now ≡ before))
+      ⊎ (((end ≡ LongLine) × (length bytes ≡ 257) × (now ≡ before)) ⊎ ((end ≡ SourceFault) × (length bytes ≤ 256) × (before < now)))

@@ -1,6 +1,6 @@
 -- What a control does to its source, its sink and its port.
 use Rattle.std.specs.List.{concat}
-use Rattle.std.specs.Prelude.{◌≡◌, ℕ, ◌<◌, ◌≤◌, Bool, true, false, List, [], ◌∷◌, ◌++◌, Option, Result, MatchResult}
+use Rattle.std.specs.Prelude.{◌≡◌, ℕ, Bool, true, false, List, [], ◌∷◌, ◌++◌, Option, Result, MatchResult}
 use Rattle.std.specs.Io.KnownBytes.{Appends, Consumes, IsAtEnd}
 use Rattle.sector_extent.specs.Causes.{Charges}
 use Rattle.byte_ports.specs.Ports.{AppendsFront}
@@ -61,6 +61,12 @@ pub record SendsButLast (old new : Option (List ℕ)) (pieces : List (List ℕ))
   pub sent : Appends old mid (concat before)
   pub part : AppendsFront mid new last
 
+-- no fault was passed over: the source's count of faults rose just where a fault of the source ended the control, and the
+-- sink's just where one of the sink did
+pub record TellsFaults (old new : Ends) (end : ControlEnd) : Type 0 where
+  pub source : Charges (λ e. e.read_faults) old new (end ≡ SourceFault)
+  pub sink : Charges (λ e. e.write_faults) old new (end ≡ SinkFault)
+
 -- the control ended so, and nothing was read behind the line that ended it. A fault of the source stands where more
 -- bytes were wanted. A fault of the sink stands in the last piece: all before it was sent, and nothing was read behind
 -- the line that it answers
@@ -73,10 +79,8 @@ Why old new closed t Quit = Ending old new closed t Quit
 Why old new closed t AtEnd = Ending old new closed t AtEnd
 Why old new closed t LongLine = Ending old new closed t LongLine
 Why old new closed t TooManyLines = Ending old new closed t TooManyLines
-Why old new closed t SourceFault = (old.read_faults < new.read_faults) × Appends old.written new.written (concat t.pieces)
-    × (t.hungry ≡ true) × (closed ≡ false) × (t.unread ≡ [])
-Why old new closed t SinkFault = (old.write_faults < new.write_faults) × SendsButLast old.written new.written t.pieces
-    × (t.begun ≡ false) × (t.unread ≡ [])
+Why old new closed t SourceFault = Appends old.written new.written (concat t.pieces) × (t.hungry ≡ true) × (closed ≡ false) × (t.unread ≡ [])
+Why old new closed t SinkFault = SendsButLast old.written new.written t.pieces × (t.begun ≡ false) × (t.unread ≡ [])
 Why old new closed t Memory = ⊥
 
 -- the bytes that were read, whether the input ended behind them, and the port's answers make the control, and it ended so
@@ -88,6 +92,7 @@ pub record Ended (control : Rest) (old new : Ends) (end : ControlEnd) : Type 0 w
   pub shut : closed ≡ true → IsAtEnd new.left
   pub fits : Fits old.port (control closed read answers).asked answers new.port
   pub why : Why old new closed (control closed read answers) end
+  pub faults : TellsFaults old new end
 
 -- a control that was served. Want of memory is answered before anything was read, written or asked
 abbrev pub Serves : Rest → Ends → Ends → ControlEnd → Type 0
@@ -101,7 +106,7 @@ Serves control old new Memory = new ≡ old
 
 -- ---- parts of a control
 
--- a part of the control is behind, and what follows is the rest of it
+-- a part of the control is behind, with no fault, and what follows is the rest of it
 pub record Went (control rest : Rest) (old new : Ends) : Type 0 where
   pub read : List ℕ
   pub pieces : List (List ℕ)
@@ -110,8 +115,8 @@ pub record Went (control rest : Rest) (old new : Ends) : Type 0 where
   pub taken : Consumes old.left new.left read
   pub sent : Appends old.written new.written (concat pieces)
   pub fits : Fits old.port asked answers new.port
-  pub reads_later : old.read_faults ≤ new.read_faults
-  pub writes_later : old.write_faults ≤ new.write_faults
+  pub reads_calm : new.read_faults ≡ old.read_faults
+  pub writes_calm : new.write_faults ≡ old.write_faults
   pub goes : (closed : Bool) (more : List ℕ) (others : List Answer)
       → control closed (read ++ more) (answers ++ others) ≡ front pieces asked (rest closed more others)
 

@@ -48,7 +48,7 @@ pub(crate) fn answer_to<C: ControlPort>(port: &mut C, line: Line) -> Text
 /// Sends all of `bytes`.
 pub(crate) fn send<B: Sink>(sink: &mut B, bytes: &[u8]) -> Result<(), ControlEnd>
     ensures { MatchResult result
-        (λ _. Appends (B.written sink.old) (B.written sink.new) bytes.now × (B.faults sink.old ≤ B.faults sink.new))
+        (λ _. Appends (B.written sink.old) (B.written sink.new) bytes.now × (B.faults sink.new ≡ B.faults sink.old))
         (λ end. (end ≡ ControlEnd.SinkFault) × AppendsFront (B.written sink.old) (B.written sink.new) bytes.now
         × (B.faults sink.old < B.faults sink.new)) }
 {

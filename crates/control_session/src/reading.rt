@@ -23,7 +23,7 @@ fn next_byte<A: Source>(source: &mut A) -> Result<Option<u8>, ControlEnd>
         (λ next. MatchOption next
         (Consumes (A.left source.old) (A.left source.new) [] × IsAtEnd (A.left source.new))
         (λ byte. Consumes (A.left source.old) (A.left source.new) (byte ∷ []))
-        × (A.faults source.old ≤ A.faults source.new))
+        × (A.faults source.new ≡ A.faults source.old))
         (λ end. (end ≡ ControlEnd.SourceFault) × Consumes (A.left source.old) (A.left source.new) []
         × (A.faults source.old < A.faults source.new)) }
 {
@@ -41,7 +41,7 @@ pub(crate) fn read_line<A: Source>(source: &mut A, line: &mut [u8]) -> Result<Fo
     requires { length line.old ≡ 257 }
     ensures { MatchResult result
         (λ found. ReadsLine (A.left source.old) (A.left source.new) line.new found
-        × (A.faults source.old ≤ A.faults source.new))
+        × (A.faults source.new ≡ A.faults source.old))
         (StopsReading (A.left source.old) (A.left source.new) (A.faults source.old) (A.faults source.new)) }
 {
     for count in 0..line.len() {

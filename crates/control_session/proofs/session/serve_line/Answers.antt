@@ -25,7 +25,7 @@ returns-in_err-send g c = λ go idle.
     rw (q.1, q.2, e.0) (unsent go (A.left c.args.source.now) (A.left c.read_line.new.source) (A.faults c.args.source.now) (A.faults c.read_line.new.source)
     (B.written c.args.sink.now) (B.written c.send.new.sink) (B.faults c.args.sink.now) (B.faults c.send.new.sink) (C.state c.args.port.now) (C.state c.answer_to-text.new.port)
     c.line_said-line.result c.answer_to-text.result.bytes c.in_ok-found.found.last t c.answer_to-text.ensures
-    (subst (AppendsFront (B.written c.args.sink.now) (B.written c.send.new.sink)) sent e.1) e.2)
+    (subst (AppendsFront (B.written c.args.sink.now) (B.written c.send.new.sink)) sent e.1) c.in_ok-found.ensures.1 e.2)
 
 pub returns-then-is_quit : goal.returns-then-is_quit
 returns-then-is_quit g c = λ go idle.
@@ -37,7 +37,7 @@ returns-then-is_quit g c = λ go idle.
     quits go (A.left c.args.source.now) (A.left c.read_line.new.source) (A.faults c.args.source.now) (A.faults c.read_line.new.source)
     (B.written c.args.sink.now) (B.written c.send.new.sink) (B.faults c.args.sink.now) (B.faults c.send.new.sink) (C.state c.args.port.now) (C.state c.answer_to-text.new.port)
     c.line_said-line.result c.answer_to-text.result.bytes c.in_ok-found.found.last t c.answer_to-text.ensures (c.is_quit.ensures.yes c.if-is_quit.true)
-    (subst (Appends (B.written c.args.sink.now) (B.written c.send.new.sink)) sent c.in_ok-send.ensures.0)
+    (subst (Appends (B.written c.args.sink.now) (B.written c.send.new.sink)) sent c.in_ok-send.ensures.0) c.in_ok-found.ensures.1 c.in_ok-send.ensures.1
 
 pub returns-then-found : goal.returns-then-found
 returns-then-found g c = λ go idle.
@@ -49,7 +49,7 @@ returns-then-found g c = λ go idle.
     ends_there go (A.left c.args.source.now) (A.left c.read_line.new.source) (A.faults c.args.source.now) (A.faults c.read_line.new.source)
     (B.written c.args.sink.now) (B.written c.send.new.sink) (B.faults c.args.sink.now) (B.faults c.send.new.sink) (C.state c.args.port.now) (C.state c.answer_to-text.new.port)
     c.line_said-line.result c.answer_to-text.result.bytes c.in_ok-found.found.last t c.answer_to-text.ensures (c.is_quit.ensures.no c.if-is_quit.false) c.if-found.true
-    (subst (Appends (B.written c.args.sink.now) (B.written c.send.new.sink)) sent c.in_ok-send.ensures.0)
+    (subst (Appends (B.written c.args.sink.now) (B.written c.send.new.sink)) sent c.in_ok-send.ensures.0) c.in_ok-found.ensures.1 c.in_ok-send.ensures.1
 
 pub returns : goal.returns
 returns g c = λ go idle.
