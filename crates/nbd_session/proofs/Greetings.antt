@@ -19,7 +19,7 @@ use Rattle.nbd_session.specs.Talks.{Rest, front, stop, stop_at, transmission, go
 use Rattle.nbd_session.specs.Fits.{Fits}
 use Rattle.nbd_session.specs.Sessions.{Ends, ends, Ended, Went, GoesOn, IsIdle, said}
 use Rattle.nbd_session.specs.Handshakes.{in_phase, Says}
-use Rattle.nbd_session.proofs.Steps.{went_along, went_trans}
+use Rattle.nbd_session.proofs.Steps.{tells_sink, went_along, went_trans}
 use Rattle.nbd_session.proofs.OneRequest.{transmission-idle}
 
 -- the two replies to LIST, one piece behind another; the head has the length of what follows it
@@ -150,7 +150,7 @@ pub says_on : (takes : Bool) (more start : Rest) (left : Option (List ℕ)) (rea
     (answer : OptionAnswer) (result : Result Phase Served)
     → IsIdle more → IsIdle start → Says answer written written_now writes writes_now result
     → GoesOn takes (answered more start answer) (in_phase more start) (ends left reads written writes port) (ends left reads written_now writes_now port) result
-says_on takes more start left reads written written_now writes writes_now port answer (Ok phase) first second (next, sent, later) = record {
+says_on takes more start left reads written written_now writes writes_now port answer (Ok phase) first second (next, sent, calm) = record {
   read = [];
   pieces = answer.said ∷ [];
   passed = [];
@@ -158,8 +158,8 @@ says_on takes more start left reads written written_now writes writes_now port a
   taken = Consumes-nil left;
   sent = subst (Appends written written_now) (sym (append-nil answer.said)) sent;
   fits = refl;
-  reads_later = omega arith;
-  writes_later = later;
+  reads_calm = refl;
+  writes_calm = calm;
   goes = λ bytes others. ap (λ next. front (answer.said ∷ []) [] (goes_on more start next bytes others)) next;
 }
 says_on takes more start left reads written written_now writes writes_now port answer (Err end) first second (is, part, rose) =
@@ -170,7 +170,6 @@ says_on takes more start left reads written written_now writes writes_now port a
       taken = Consumes-nil left;
       fits = subst (λ l. Fits takes port l [] port) (sym idle.1) refl;
       why = (
-        rose,
         record {
           before = [];
           last = answer.said;
@@ -182,6 +181,7 @@ says_on takes more start left reads written written_now writes writes_now port a
         idle.2,
         idle.3,
       );
+      faults = tells_sink refl rose;
     })
 
 -- ---- one option after another

@@ -26,7 +26,7 @@ use Rattle.nbd_session.specs.Jobs.{job_of, is_known}
 use Rattle.nbd_session.specs.Options.{Next, More, Start, Stop, OptionAnswer}
 use Rattle.nbd_session.specs.Talks.{Talk, Rest, front, asks, tested, after_magic, one_request, transmission, goes_on, answered, after_option, after_head, with_head, options, after_hello, greeted, talk}
 use Rattle.nbd_session.specs.Fits.{Fits}
-use Rattle.nbd_session.specs.Sessions.{Ends, Why}
+use Rattle.nbd_session.specs.Sessions.{Ends, TellsFaults, Why}
 use Rattle.nbd_session.specs.Completeness.{Offer, Message, answer_to, AreOptions, IsProper, IsGoodbye, IsOrderly, IsCalm, JobHasRoom, HasRoomForIt, option_replies, replies, IsWell, IsServed, OrderlyAreServed, NoneEnds, EndsOrWants}
 use Rattle.nbd_session.proofs.Greetings.{greeted-whole, with_head-whole, options-some}
 use Rattle.nbd_session.proofs.Steps.{front-front}
@@ -263,19 +263,19 @@ orderly_talk export n bytes answers o how =
     (subst (λ l. (l ≡ []) ⊎ NoneEnds export n o.hello o.options) (ap (λ t. t.unread) begins) how))
 
 -- without a fault the talk gives the end
-pub end_of : (old new : Ends) (t : Talk) (end : Served) → Why old new t end → IsCalm old new → (t.end ≡ end) × (t.unread ≡ []) × (t.hungry ≡ true → IsAtEnd new.left)
-end_of old new t Done why calm = (why.0, why.3, why.2)
-end_of old new t Aborted why calm = (why.0, why.3, why.2)
-end_of old new t BadHello why calm = (why.0, why.3, why.2)
-end_of old new t BadMagic why calm = (why.0, why.3, why.2)
-end_of old new t Truncated why calm = (why.0, why.3, why.2)
-end_of old new t (Oversized size) why calm = (why.0, why.3, why.2)
-end_of old new t TooManyOptions why calm = (why.0, why.3, why.2)
-end_of old new t UnknownExport why calm = (why.0, why.3, why.2)
-end_of old new t TooManyRequests why calm = (why.0, why.3, why.2)
-end_of old new t SourceFault why calm = let never : ⊥ = omega (arith, why.0, calm.source) in absurd never
-end_of old new t SinkFault why calm = let never : ⊥ = omega (arith, why.0, calm.sink) in absurd never
-end_of old new t Memory why calm = absurd why
+pub end_of : (old new : Ends) (t : Talk) (end : Served) → Why old new t end → TellsFaults old new end → IsCalm old new → (t.end ≡ end) × (t.unread ≡ []) × (t.hungry ≡ true → IsAtEnd new.left)
+end_of old new t Done why tells calm = (why.0, why.3, why.2)
+end_of old new t Aborted why tells calm = (why.0, why.3, why.2)
+end_of old new t BadHello why tells calm = (why.0, why.3, why.2)
+end_of old new t BadMagic why tells calm = (why.0, why.3, why.2)
+end_of old new t Truncated why tells calm = (why.0, why.3, why.2)
+end_of old new t (Oversized size) why tells calm = (why.0, why.3, why.2)
+end_of old new t TooManyOptions why tells calm = (why.0, why.3, why.2)
+end_of old new t UnknownExport why tells calm = (why.0, why.3, why.2)
+end_of old new t TooManyRequests why tells calm = (why.0, why.3, why.2)
+end_of old new t SourceFault why tells calm = let never : ⊥ = omega (arith, tells.source.failed refl, calm.source) in absurd never
+end_of old new t SinkFault why tells calm = let never : ⊥ = omega (arith, tells.sink.failed refl, calm.sink) in absurd never
+end_of old new t Memory why tells calm = absurd why
 
 -- a talk over bytes that are in order, all of which were read
 pub orderly_served : (takes : Bool) (export : Export) (n : ℕ) (old new : Ends) (end : Served) (bytes : List ℕ) (answers : List Answer) (o : IsOrderly export n bytes)
@@ -294,7 +294,7 @@ orderly_served takes export n old new end bytes answers o fits ends read calm ro
 
 pub orderly_are_served : (takes : Bool) (export : Export) (n : ℕ) (old new : Ends) (end : Served) → OrderlyAreServed takes export n old new end
 orderly_are_served takes export n old new end e o calm roomy =
-    let (ends, read, at_end) = end_of old new (talk export n e.read e.answers) end e.why calm in
+    let (ends, read, at_end) = end_of old new (talk export n e.read e.answers) end e.why e.faults calm in
     orderly_served takes export n old new end e.read e.answers o e.fits ends read calm roomy
 
 pub ends_or_wants : (takes : Bool) (talk : Rest) (old new : Ends) (end : Served) → EndsOrWants takes talk old new end

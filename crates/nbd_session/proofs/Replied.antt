@@ -1,5 +1,5 @@
 -- One request behind its 28 bytes: its data, the port's answer, and the reply.
-use Rattle.std.proofs.Common.{◌≡◌, ℕ, ◌≤◌, Bool, true, false, List, [], length, refl, inl}
+use Rattle.std.proofs.Common.{◌≡◌, ℕ, Bool, true, false, List, [], length, refl, inl}
 use Rattle.std.specs.Prelude.{Option, Result}
 use Rattle.std.specs.Io.KnownBytes.{Consumes}
 use Rattle.flat_image.specs.Ports.{PortState}
@@ -21,11 +21,11 @@ use Rattle.nbd_session.proofs.Steps.{went_trans, goes_after, went_read, ended_cu
 module _ {T : Type 0} (takes : Bool) (go : Rest) (r : Request) (left left_now : Option (List ℕ)) (reads reads_now : ℕ) (written written_now : Option (List ℕ)) (writes writes_now : ℕ) where
   -- a request that was put to the port, behind these data
   pub job_replied : (job : Job) (bytes : List ℕ) (answer : Answer) (port port_now : PortState) (result : Result T Served) → IsIdle go
-      → length bytes ≡ data_length r → Consumes left left_now bytes → reads ≤ reads_now
+      → length bytes ≡ data_length r → Consumes left left_now bytes → reads_now ≡ reads
       → Passes takes port port_now (record { job = job; bytes = bytes }) answer → Sends written written_now writes writes_now (reply_of r.cookie answer) result
       → GoesOn takes (with_job go r job) (λ _. go) (ends left reads written writes port) (ends left_now reads_now written_now writes_now port_now) result
-  job_replied job bytes answer port port_now result idle whole taken later does sent =
-      let read = went_read {takes = takes} (with_job go r job) (asks go r.cookie (record { job = job; bytes = bytes })) left left_now reads reads_now written writes port bytes taken later
+  job_replied job bytes answer port port_now result idle whole taken calm does sent =
+      let read = went_read {takes = takes} (with_job go r job) (asks go r.cookie (record { job = job; bytes = bytes })) left left_now reads reads_now written writes port bytes taken calm
       (λ more others. with_job-whole go r job bytes more others whole) in
       let asked = went_asked {takes = takes} go r.cookie (record { job = job; bytes = bytes }) answer left_now reads_now written writes port port_now does in
       goes_after (λ _. go) (ends left_now reads_now written_now writes_now port_now) result (went_trans read asked)
@@ -33,11 +33,11 @@ module _ {T : Type 0} (takes : Bool) (go : Rest) (r : Request) (left left_now : 
 
   -- a request that was refused, behind these data
   pub refusal_replied : (refusal : Errno) (bytes : List ℕ) (port : PortState) (result : Result T Served) → IsIdle go
-      → length bytes ≡ data_length r → Consumes left left_now bytes → reads ≤ reads_now
+      → length bytes ≡ data_length r → Consumes left left_now bytes → reads_now ≡ reads
       → Sends written written_now writes writes_now (reply_of r.cookie (Bad refusal)) result
       → GoesOn takes (with_refusal go r refusal) (λ _. go) (ends left reads written writes port) (ends left_now reads_now written_now writes_now port) result
-  refusal_replied refusal bytes port result idle whole taken later sent =
-      let read = went_read {takes = takes} (with_refusal go r refusal) (said (simple_reply_bytes (errno_number refusal) r.cookie) go) left left_now reads reads_now written writes port bytes taken later
+  refusal_replied refusal bytes port result idle whole taken calm sent =
+      let read = went_read {takes = takes} (with_refusal go r refusal) (said (simple_reply_bytes (errno_number refusal) r.cookie) go) left left_now reads reads_now written writes port bytes taken calm
       (λ more others. with_refusal-whole go r refusal bytes more others whole) in
       goes_after (λ _. go) (ends left_now reads_now written_now writes_now port) result read
       (sends_on takes (λ _. go) go left_now reads_now written written_now writes writes_now port (reply_of r.cookie (Bad refusal)) result idle (λ value. refl) sent)

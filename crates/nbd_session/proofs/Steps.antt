@@ -1,5 +1,5 @@
 -- How the parts of a connection follow one another.
-use Rattle.std.proofs.Common.{◌≡◌, ℕ, ◌<◌, ◌≤◌, inl, inr, Bool, List, [], ◌∷◌, ◌++◌, length, refl, sym, ap, ◌∙◌, subst, arith, append_assoc, append-nil}
+use Rattle.std.proofs.Common.{◌≡◌, ℕ, ◌<◌, inl, inr, Bool, List, [], ◌∷◌, ◌++◌, length, refl, sym, ap, ◌∙◌, subst, arith, append_assoc, append-nil}
 use Rattle.std.specs.Prelude.{Option, Result, Ok, Err}
 use Rattle.std.specs.Io.KnownBytes.{Appends, Consumes, IsAtEnd}
 use Rattle.std.specs.List.{concat}
@@ -11,7 +11,7 @@ use Rattle.nbd_session.specs.declared.served.Served.TheVariants.{Done, Aborted, 
 use Rattle.nbd_session.specs.Replies.{Answer, reply_of}
 use Rattle.nbd_session.specs.Talks.{Passed, Talk, Rest, front, stop, stop_at, asks}
 use Rattle.nbd_session.specs.Fits.{Passes, Fits}
-use Rattle.nbd_session.specs.Sessions.{Ends, ends, Ending, Why, Ended, Went, GoesOn, IsIdle, said, IsCut, Sends}
+use Rattle.nbd_session.specs.Sessions.{Ends, ends, TellsFaults, Ending, Why, Ended, Went, GoesOn, IsIdle, said, IsCut, Sends}
 
 -- ---- roomy answers
 
@@ -40,6 +40,42 @@ front-front written more passed others t =
 joined : (a b c : Option (List ℕ)) (xs ys : List (List ℕ)) → Appends a b (concat xs) → Appends b c (concat ys) → Appends a c (concat (xs ++ ys))
 joined a b c xs ys first second = subst (Appends a c) (sym (concat-append xs ys)) (Appends-trans a b c (concat xs) (concat ys) first second)
 
+-- no fault came, and none ended the connection
+pub tells_none : {old new : Ends} {end : Served} → new.read_faults ≡ old.read_faults → new.write_faults ≡ old.write_faults
+    → (end ≡ SourceFault → ⊥) → (end ≡ SinkFault → ⊥) → TellsFaults old new end
+tells_none reads writes no_source no_sink = record {
+  source = record { later = omega (arith, reads); failed = λ is. absurd (no_source is); only = λ rose. absurd (omega (arith, reads, rose)) };
+  sink = record { later = omega (arith, writes); failed = λ is. absurd (no_sink is); only = λ rose. absurd (omega (arith, writes, rose)) };
+}
+
+pub tells_source : {old new : Ends} → old.read_faults < new.read_faults → new.write_faults ≡ old.write_faults → TellsFaults old new SourceFault
+tells_source rose writes = record {
+  source = record { later = omega (arith, rose); failed = λ is. rose; only = λ _. refl };
+  sink = record { later = omega (arith, writes); failed = λ is. absurd cc; only = λ more. absurd (omega (arith, writes, more)) };
+}
+
+pub tells_sink : {old new : Ends} → new.read_faults ≡ old.read_faults → old.write_faults < new.write_faults → TellsFaults old new SinkFault
+tells_sink reads rose = record {
+  source = record { later = omega (arith, reads); failed = λ is. absurd cc; only = λ more. absurd (omega (arith, reads, more)) };
+  sink = record { later = omega (arith, rose); failed = λ is. rose; only = λ _. refl };
+}
+
+-- nothing had failed before
+tells_after : {old mid new : Ends} {end : Served} → mid.read_faults ≡ old.read_faults → mid.write_faults ≡ old.write_faults
+    → TellsFaults mid new end → TellsFaults old new end
+tells_after reads writes tells = record {
+  source = record {
+    later = omega (arith, reads, tells.source.later);
+    failed = λ is. let rose = tells.source.failed is in omega (arith, reads, rose);
+    only = λ rose. tells.source.only (omega (arith, reads, rose));
+  };
+  sink = record {
+    later = omega (arith, writes, tells.sink.later);
+    failed = λ is. let rose = tells.sink.failed is in omega (arith, writes, rose);
+    only = λ rose. tells.sink.only (omega (arith, writes, rose));
+  };
+}
+
 -- nothing was done
 pub went_none : {takes : Bool} (talk : Rest) (old : Ends) → Went takes talk talk old old
 went_none {takes} talk old = record {
@@ -50,8 +86,8 @@ went_none {takes} talk old = record {
   taken = Consumes-nil old.left;
   sent = Appends-nil old.written;
   fits = refl;
-  reads_later = omega arith;
-  writes_later = omega arith;
+  reads_calm = refl;
+  writes_calm = refl;
   goes = λ more others. refl;
 }
 
@@ -64,8 +100,8 @@ went_trans {takes} {a} {b} {c} {old} {mid} {new} first second = record {
   taken = Consumes-trans old.left mid.left new.left first.read second.read first.taken second.taken;
   sent = joined old.written mid.written new.written first.pieces second.pieces first.sent second.sent;
   fits = Fits-append takes old.port mid.port new.port first.passed second.passed first.answers second.answers first.fits second.fits;
-  reads_later = omega (arith, first.reads_later, second.reads_later);
-  writes_later = omega (arith, first.writes_later, second.writes_later);
+  reads_calm = second.reads_calm ∙ first.reads_calm;
+  writes_calm = second.writes_calm ∙ first.writes_calm;
   goes = λ more others.
       ap (λ l. a l ((first.answers ++ second.answers) ++ others)) (append_assoc first.read second.read more)
       ∙ ap (λ l. a (first.read ++ (second.read ++ more)) l) (append_assoc first.answers second.answers others)
@@ -87,8 +123,8 @@ went_along c d before behind w = record {
   taken = w.taken;
   sent = w.sent;
   fits = w.fits;
-  reads_later = w.reads_later;
-  writes_later = w.writes_later;
+  reads_calm = w.reads_calm;
+  writes_calm = w.writes_calm;
   goes = λ more others. before _ _ ∙ w.goes more others ∙ ap (front w.pieces w.passed) (behind more others);
 }
 
@@ -100,6 +136,7 @@ ended_along {takes} {a} {old} {new} {end} c same e = record {
   taken = e.taken;
   fits = subst (λ t. Fits takes old.port t.passed e.answers new.port) (sym (same e.read e.answers)) e.fits;
   why = subst (λ t. Why old new t end) (sym (same e.read e.answers)) e.why;
+  faults = e.faults;
 }
 
 ending_after : (old mid new : Ends) (pieces : List (List ℕ)) (passed : List Passed) (t : Talk) (end : Served)
@@ -108,21 +145,19 @@ ending_after old mid new pieces passed t end sent e =
     (e.0, joined old.written mid.written new.written pieces t.pieces sent e.1, e.2, e.3)
 
 why_after : (old mid new : Ends) (pieces : List (List ℕ)) (passed : List Passed) (t : Talk)
-    → Appends old.written mid.written (concat pieces) → old.read_faults ≤ mid.read_faults → old.write_faults ≤ mid.write_faults
-    → (end : Served) → Why mid new t end → Why old new (front pieces passed t) end
-why_after old mid new pieces passed t sent reads writes Done e = ending_after old mid new pieces passed t Done sent e
-why_after old mid new pieces passed t sent reads writes Aborted e = ending_after old mid new pieces passed t Aborted sent e
-why_after old mid new pieces passed t sent reads writes BadHello e = ending_after old mid new pieces passed t BadHello sent e
-why_after old mid new pieces passed t sent reads writes BadMagic e = ending_after old mid new pieces passed t BadMagic sent e
-why_after old mid new pieces passed t sent reads writes Truncated e = ending_after old mid new pieces passed t Truncated sent e
-why_after old mid new pieces passed t sent reads writes (Oversized n) e = ending_after old mid new pieces passed t (Oversized n) sent e
-why_after old mid new pieces passed t sent reads writes TooManyOptions e = ending_after old mid new pieces passed t TooManyOptions sent e
-why_after old mid new pieces passed t sent reads writes UnknownExport e = ending_after old mid new pieces passed t UnknownExport sent e
-why_after old mid new pieces passed t sent reads writes TooManyRequests e = ending_after old mid new pieces passed t TooManyRequests sent e
-why_after old mid new pieces passed t sent reads writes SourceFault (rose, last, hungry, unread) =
-    (omega arith, joined old.written mid.written new.written pieces t.pieces sent last, hungry, unread)
-why_after old mid new pieces passed t sent reads writes SinkFault (rose, part, begun, unread) = (
-  omega arith,
+    → Appends old.written mid.written (concat pieces) → (end : Served) → Why mid new t end → Why old new (front pieces passed t) end
+why_after old mid new pieces passed t sent Done e = ending_after old mid new pieces passed t Done sent e
+why_after old mid new pieces passed t sent Aborted e = ending_after old mid new pieces passed t Aborted sent e
+why_after old mid new pieces passed t sent BadHello e = ending_after old mid new pieces passed t BadHello sent e
+why_after old mid new pieces passed t sent BadMagic e = ending_after old mid new pieces passed t BadMagic sent e
+why_after old mid new pieces passed t sent Truncated e = ending_after old mid new pieces passed t Truncated sent e
+why_after old mid new pieces passed t sent (Oversized n) e = ending_after old mid new pieces passed t (Oversized n) sent e
+why_after old mid new pieces passed t sent TooManyOptions e = ending_after old mid new pieces passed t TooManyOptions sent e
+why_after old mid new pieces passed t sent UnknownExport e = ending_after old mid new pieces passed t UnknownExport sent e
+why_after old mid new pieces passed t sent TooManyRequests e = ending_after old mid new pieces passed t TooManyRequests sent e
+why_after old mid new pieces passed t sent SourceFault (last, hungry, unread) =
+    (joined old.written mid.written new.written pieces t.pieces sent last, hungry, unread)
+why_after old mid new pieces passed t sent SinkFault (part, begun, unread) = (
   record {
     before = pieces ++ part.before;
     last = part.last;
@@ -134,7 +169,7 @@ why_after old mid new pieces passed t sent reads writes SinkFault (rose, part, b
   begun,
   unread,
 )
-why_after old mid new pieces passed t sent reads writes Memory e = absurd e
+why_after old mid new pieces passed t sent Memory e = absurd e
 
 -- a part is behind, and then the connection ended
 pub ended_after : {takes : Bool} {a b : Rest} {old mid new : Ends} {end : Served} → Went takes a b old mid → Ended takes b mid new end → Ended takes a old new end
@@ -147,7 +182,8 @@ ended_after {takes} {a} {b} {old} {mid} {new} {end} first second =
       fits = subst (λ t. Fits takes old.port t.passed (first.answers ++ second.answers) new.port) (sym same)
           (Fits-append takes old.port mid.port new.port first.passed (b second.read second.answers).passed first.answers second.answers first.fits second.fits);
       why = subst (λ t. Why old new t end) (sym same)
-          (why_after old mid new first.pieces first.passed (b second.read second.answers) first.sent first.reads_later first.writes_later end second.why);
+          (why_after old mid new first.pieces first.passed (b second.read second.answers) first.sent end second.why);
+      faults = tells_after first.reads_calm first.writes_calm second.faults;
     }
 
 -- a part is behind, and then the connection goes on or ended
@@ -160,10 +196,10 @@ goes_after rest new (Err end) first second = ended_after first second
 
 -- just these bytes were taken
 pub went_read : {takes : Bool} (talk rest : Rest) (left left_now : Option (List ℕ)) (reads reads_now : ℕ) (written : Option (List ℕ)) (writes : ℕ) (port : PortState) (bytes : List ℕ)
-    → Consumes left left_now bytes → reads ≤ reads_now
+    → Consumes left left_now bytes → reads_now ≡ reads
     → ((more : List ℕ) (others : List Answer) → talk (bytes ++ more) others ≡ rest more others)
     → Went takes talk rest (ends left reads written writes port) (ends left_now reads_now written writes port)
-went_read talk rest left left_now reads reads_now written writes port bytes taken later goes = record {
+went_read talk rest left left_now reads reads_now written writes port bytes taken calm goes = record {
   read = bytes;
   pieces = [];
   passed = [];
@@ -171,17 +207,17 @@ went_read talk rest left left_now reads reads_now written writes port bytes take
   taken = taken;
   sent = Appends-nil written;
   fits = refl;
-  reads_later = later;
-  writes_later = omega arith;
+  reads_calm = calm;
+  writes_calm = refl;
   goes = goes;
 }
 
 -- just these bytes were taken, and they are answered by none
 pub went_unanswered : {takes : Bool} (talk rest : Rest) (left left_now : Option (List ℕ)) (reads reads_now : ℕ) (written : Option (List ℕ)) (writes : ℕ) (port : PortState) (bytes : List ℕ)
-    → Consumes left left_now bytes → reads ≤ reads_now
+    → Consumes left left_now bytes → reads_now ≡ reads
     → ((more : List ℕ) (others : List Answer) → talk (bytes ++ more) others ≡ front ([] ∷ []) [] (rest more others))
     → Went takes talk rest (ends left reads written writes port) (ends left_now reads_now written writes port)
-went_unanswered talk rest left left_now reads reads_now written writes port bytes taken later goes = record {
+went_unanswered talk rest left left_now reads reads_now written writes port bytes taken calm goes = record {
   read = bytes;
   pieces = [] ∷ [];
   passed = [];
@@ -189,39 +225,43 @@ went_unanswered talk rest left left_now reads reads_now written writes port byte
   taken = taken;
   sent = Appends-nil written;
   fits = refl;
-  reads_later = later;
-  writes_later = omega arith;
+  reads_calm = calm;
+  writes_calm = refl;
   goes = goes;
 }
 
--- a word ended the connection, and nothing behind it was read. The last argument is `λ e. e` at each end that is no fault
+-- a word ended the connection, and nothing behind it was read. The end is no fault
 pub ended_word : {takes : Bool} (talk : Rest) (left left_now : Option (List ℕ)) (reads reads_now : ℕ) (written : Option (List ℕ)) (writes : ℕ) (port : PortState) (end : Served) (begun : Bool) (bytes : List ℕ)
-    → Consumes left left_now bytes → talk bytes [] ≡ stop_at end begun []
+    → Consumes left left_now bytes → reads_now ≡ reads → talk bytes [] ≡ stop_at end begun []
     → (Ending (ends left reads written writes port) (ends left_now reads_now written writes port) (stop_at end begun []) end
     → Why (ends left reads written writes port) (ends left_now reads_now written writes port) (stop_at end begun []) end)
+    → (end ≡ SourceFault → ⊥) → (end ≡ SinkFault → ⊥)
     → Ended takes talk (ends left reads written writes port) (ends left_now reads_now written writes port) end
-ended_word {takes} talk left left_now reads reads_now written writes port end begun bytes taken same plain = record {
+ended_word {takes} talk left left_now reads reads_now written writes port end begun bytes taken calm same plain no_source no_sink = record {
   read = bytes;
   answers = [];
   taken = taken;
   fits = subst (λ t. Fits takes port t.passed [] port) (sym same) refl;
   why = subst (λ t. Why (ends left reads written writes port) (ends left_now reads_now written writes port) t end) (sym same)
       (plain (refl, Appends-nil written, (λ e. cc), refl));
+  faults = tells_none calm refl no_source no_sink;
 }
 
--- the bytes ended before a word that ends the connection. The last argument is `λ e. e` at each end that is no fault
+-- the bytes ended before a word that ends the connection. The end is no fault
 pub ended_bytes : {takes : Bool} (talk : Rest) (left left_now : Option (List ℕ)) (reads reads_now : ℕ) (written : Option (List ℕ)) (writes : ℕ) (port : PortState) (end : Served) (begun : Bool) (bytes : List ℕ)
-    → Consumes left left_now bytes → IsAtEnd left_now → talk bytes [] ≡ stop end begun
+    → Consumes left left_now bytes → IsAtEnd left_now → reads_now ≡ reads → talk bytes [] ≡ stop end begun
     → (Ending (ends left reads written writes port) (ends left_now reads_now written writes port) (stop end begun) end
     → Why (ends left reads written writes port) (ends left_now reads_now written writes port) (stop end begun) end)
+    → (end ≡ SourceFault → ⊥) → (end ≡ SinkFault → ⊥)
     → Ended takes talk (ends left reads written writes port) (ends left_now reads_now written writes port) end
-ended_bytes {takes} talk left left_now reads reads_now written writes port end begun bytes taken at_end same plain = record {
+ended_bytes {takes} talk left left_now reads reads_now written writes port end begun bytes taken at_end calm same plain no_source no_sink = record {
   read = bytes;
   answers = [];
   taken = taken;
   fits = subst (λ t. Fits takes port t.passed [] port) (sym same) refl;
   why = subst (λ t. Why (ends left reads written writes port) (ends left_now reads_now written writes port) t end) (sym same)
       (plain (refl, Appends-nil written, (λ e. at_end), refl));
+  faults = tells_none calm refl no_source no_sink;
 }
 
 -- the source failed where more bytes were wanted
@@ -234,7 +274,8 @@ ended_fault {takes} talk left left_now reads reads_now written writes port end b
   taken = taken;
   fits = subst (λ t. Fits takes port t.passed [] port) (sym same) refl;
   why = subst (λ t. Why (ends left reads written writes port) (ends left_now reads_now written writes port) t SourceFault) (sym same)
-      (rose, Appends-nil written, refl, refl);
+      (Appends-nil written, refl, refl);
+  faults = tells_source rose refl;
 }
 
 -- fewer bytes than were wanted: the bytes ended there, or the source failed
@@ -244,8 +285,8 @@ pub ended_cut : {takes : Bool} (talk : Rest) (left left_now : Option (List ℕ))
     → Ended takes talk (ends left reads written writes port) (ends left_now reads_now written writes port) end
 ended_cut {takes} talk left left_now reads reads_now written writes port size end begun short cut =
     elim cut.cause [
-      | inl (same, at_end) ↦ subst (λ s. Ended takes talk (ends left reads written writes port) (ends left_now reads_now written writes port) s) (sym same)
-          (ended_bytes talk left left_now reads reads_now written writes port Truncated (begun cut.bytes) cut.bytes cut.taken at_end (short cut.bytes cut.short) (λ e. e))
+      | inl (same, at_end, calm) ↦ subst (λ s. Ended takes talk (ends left reads written writes port) (ends left_now reads_now written writes port) s) (sym same)
+          (ended_bytes talk left left_now reads reads_now written writes port Truncated (begun cut.bytes) cut.bytes cut.taken at_end calm (short cut.bytes cut.short) (λ e. e) (λ e. cc) (λ e. cc))
       | inr (same, rose) ↦ subst (λ s. Ended takes talk (ends left reads written writes port) (ends left_now reads_now written writes port) s) (sym same)
           (ended_fault talk left left_now reads reads_now written writes port Truncated (begun cut.bytes) cut.bytes cut.taken rose (short cut.bytes cut.short))
     ]
@@ -264,8 +305,8 @@ went_asked go cookie passed answer left reads written writes port port_now does 
   taken = Consumes-nil left;
   sent = Appends-nil written;
   fits = (port_now, does, refl);
-  reads_later = omega arith;
-  writes_later = omega arith;
+  reads_calm = refl;
+  writes_calm = refl;
   goes = λ more others. refl;
 }
 
@@ -283,8 +324,8 @@ sends_on {T} takes rest go left reads written written_now writes writes_now port
       taken = Consumes-nil left;
       sent = subst (Appends written written_now) (sym (append-nil bytes)) sent.0;
       fits = refl;
-      reads_later = omega arith;
-      writes_later = sent.1;
+      reads_calm = refl;
+      writes_calm = sent.1;
       goes = λ more others. refl;
     })
 sends_on {T} takes rest go left reads written written_now writes writes_now port bytes (Err end) idle same (is, part, rose) =
@@ -294,7 +335,6 @@ sends_on {T} takes rest go left reads written written_now writes writes_now port
       taken = Consumes-nil left;
       fits = subst (λ l. Fits takes port l [] port) (sym idle.1) refl;
       why = (
-        rose,
         record {
           before = [];
           last = bytes;
@@ -306,4 +346,5 @@ sends_on {T} takes rest go left reads written written_now writes writes_now port
         idle.2,
         idle.3,
       );
+      faults = tells_sink refl rose;
     })

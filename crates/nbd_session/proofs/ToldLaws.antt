@@ -56,7 +56,7 @@ none_left export n read rest answers left is unread at_end whole = elim (cases_B
 pub told_are_served : (takes : Bool) (export : Export) (n : ℕ) (old new : Ends) (end : Served) → ToldAreServed takes export n old new end
 told_are_served takes export n old new end e bytes tells o none calm roomy =
     let (rest, left, split) = left_of old.left new.left bytes e.read tells e.taken in
-    let (ends, unread, at_end) = end_of old new (talk export n e.read e.answers) end e.why calm in
+    let (ends, unread, at_end) = end_of old new (talk export n e.read e.answers) end e.why e.faults calm in
     let whole = subst (λ l. (talk export n l e.answers).unread ≡ []) split (all_read export n bytes e.answers o none) in
     let gone = none_left export n e.read rest e.answers new.left left unread at_end whole in
     let same : bytes ≡ e.read = split ∙ (ap (λ l. e.read ++ l) gone ∙ append-nil e.read) in (

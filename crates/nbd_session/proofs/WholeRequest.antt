@@ -22,15 +22,15 @@ module _ (takes : Bool) (export : Export) (n : ℕ) (go : Rest) (r : Request) (o
   pub request_done : Went takes (one_request export n go) (after_request export n go r) old (ends left reads written writes port) → r.command ≡ 2
       → Ended takes (one_request export n go) old (ends left reads written writes port) Done
   request_done first done =
-      ended_after first (ended_word (after_request export n go r) left left reads reads written writes port Done true [] (Consumes-nil left)
-      (after_request-done export n go r [] [] done) (λ e. e))
+      ended_after first (ended_word (after_request export n go r) left left reads reads written writes port Done true [] (Consumes-nil left) refl
+      (after_request-done export n go r [] [] done) (λ e. e) (λ e. cc) (λ e. cc))
 
   -- a WRITE of too many bytes
   pub request_long : Went takes (one_request export n go) (after_request export n go r) old (ends left reads written writes port) → (r.command ≡ 2 → ⊥) → 33554432 < data_length r
       → Ended takes (one_request export n go) old (ends left reads written writes port) (Oversized r.length)
   request_long first other long =
-      ended_after first (ended_word (after_request export n go r) left left reads reads written writes port (Oversized r.length) true [] (Consumes-nil left)
-      (after_request-long export n go r [] [] other long) (λ e. e))
+      ended_after first (ended_word (after_request export n go r) left left reads reads written writes port (Oversized r.length) true [] (Consumes-nil left) refl
+      (after_request-long export n go r [] [] other long) (λ e. e) (λ e. cc) (λ e. cc))
 
 -- all others
 tested_on : {T : Type 0} (takes : Bool) (export : Export) (n : ℕ) (go : Rest) (r : Request) (rest : T → Rest) (old mid new : Ends) (result : Result T Served)
@@ -85,5 +85,5 @@ pub requests_all : (takes : Bool) (export : Export) (n total done : ℕ) (old : 
     → Went takes (transmission export n total) (transmission export n (total - done)) old (ends left reads written writes port)
     → Ended takes (transmission export n total) old (ends left reads written writes port) TooManyRequests
 requests_all takes export n total done old left reads written writes port all first =
-    ended_after first (ended_word (transmission export n (total - done)) left left reads reads written writes port TooManyRequests false [] (Consumes-nil left)
-    (ap (λ k. transmission export n k [] []) (let none : total - done ≡ 0 = omega arith in none) ∙ transmission-zero export n [] []) (λ e. e))
+    ended_after first (ended_word (transmission export n (total - done)) left left reads reads written writes port TooManyRequests false [] (Consumes-nil left) refl
+    (ap (λ k. transmission export n k [] []) (let none : total - done ≡ 0 = omega arith in none) ∙ transmission-zero export n [] []) (λ e. e) (λ e. cc) (λ e. cc))

@@ -1,5 +1,5 @@
 -- What the parts of a handshake do.
-use Rattle.std.specs.Prelude.{◌≡◌, ℕ, ◌<◌, ◌≤◌, List, Option, Result, MatchResult}
+use Rattle.std.specs.Prelude.{◌≡◌, ℕ, ◌<◌, List, Option, Result, MatchResult}
 use Rattle.std.specs.Io.KnownBytes.{Appends}
 use Rattle.byte_ports.specs.Ports.{AppendsFront}
 use Rattle.nbd_session.specs.declared.option_answers.Phase.{Phase}
@@ -23,5 +23,5 @@ in_phase more start phase = goes_on more start (next_of phase)
 -- what is said to an option was sent, and what comes next is known; or a front of it was sent before the sink failed
 abbrev pub Says : OptionAnswer → Option (List ℕ) → Option (List ℕ) → ℕ → ℕ → Result Phase Served → Type 0
 Says answer old new before now result = MatchResult result
-    (λ phase. (answer.next ≡ next_of phase) × Appends old new answer.said × (before ≤ now))
+    (λ phase. (answer.next ≡ next_of phase) × Appends old new answer.said × (now ≡ before))
     (λ end. (end ≡ served.SinkFault) × AppendsFront old new answer.said × (before < now))

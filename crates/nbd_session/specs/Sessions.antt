@@ -1,7 +1,8 @@
 -- What a connection does to its source, its sink and its port.
 use Rattle.std.specs.List.{concat}
-use Rattle.std.specs.Prelude.{◌≡◌, ℕ, ◌<◌, ◌≤◌, ◌⊎◌, Bool, true, false, List, [], ◌∷◌, ◌++◌, length, Option, Result, MatchResult}
+use Rattle.std.specs.Prelude.{◌≡◌, ℕ, ◌<◌, ◌⊎◌, Bool, true, false, List, [], ◌∷◌, ◌++◌, length, Option, Result, MatchResult}
 use Rattle.std.specs.Io.KnownBytes.{Appends, Consumes, IsAtEnd}
+use Rattle.sector_extent.specs.Causes.{Charges}
 use Rattle.byte_ports.specs.Ports.{AppendsFront}
 use Rattle.flat_image.specs.Ports.{PortState}
 use Rattle.nbd_session.specs.declared.served.Served.{Served}
@@ -32,6 +33,12 @@ pub record SendsButLast (old new : Option (List ℕ)) (pieces : List (List ℕ))
   pub sent : Appends old mid (concat before)
   pub part : AppendsFront mid new last
 
+-- no fault was passed over: the source's count of faults rose just where a fault of the source ended the connection, and the
+-- sink's just where one of the sink did
+pub record TellsFaults (old new : Ends) (end : Served) : Type 0 where
+  pub source : Charges (λ e. e.read_faults) old new (end ≡ SourceFault)
+  pub sink : Charges (λ e. e.write_faults) old new (end ≡ SinkFault)
+
 -- the talk ended so, and nothing was read behind the word that ended it. A fault of the source stands where more bytes
 -- were wanted. A fault of the sink stands in the last piece: all before it was sent, and nothing was read behind the
 -- message that it answers
@@ -48,8 +55,8 @@ Why old new t (Oversized length) = Ending old new t (Oversized length)
 Why old new t TooManyOptions = Ending old new t TooManyOptions
 Why old new t UnknownExport = Ending old new t UnknownExport
 Why old new t TooManyRequests = Ending old new t TooManyRequests
-Why old new t SourceFault = (old.read_faults < new.read_faults) × Appends old.written new.written (concat t.pieces) × (t.hungry ≡ true) × (t.unread ≡ [])
-Why old new t SinkFault = (old.write_faults < new.write_faults) × SendsButLast old.written new.written t.pieces × (t.begun ≡ false) × (t.unread ≡ [])
+Why old new t SourceFault = Appends old.written new.written (concat t.pieces) × (t.hungry ≡ true) × (t.unread ≡ [])
+Why old new t SinkFault = SendsButLast old.written new.written t.pieces × (t.begun ≡ false) × (t.unread ≡ [])
 Why old new t Memory = ⊥
 
 -- the bytes that were read and the port's answers make the talk, and it ended so
@@ -59,6 +66,7 @@ pub record Ended (takes : Bool) (talk : Rest) (old new : Ends) (end : Served) : 
   pub taken : Consumes old.left new.left read
   pub fits : Fits takes old.port (talk read answers).passed answers new.port
   pub why : Why old new (talk read answers) end
+  pub faults : TellsFaults old new end
 
 -- a connection that was served. Want of memory is answered before anything was read, written or noted
 abbrev pub Serves : Bool → Rest → Ends → Ends → Served → Type 0
@@ -77,7 +85,7 @@ Serves takes talk old new Memory = new ≡ old
 
 -- ---- parts of a connection
 
--- a part of the talk is behind, and what follows is the rest of it
+-- a part of the talk is behind, with no fault, and what follows is the rest of it
 pub record Went (takes : Bool) (talk rest : Rest) (old new : Ends) : Type 0 where
   pub read : List ℕ
   pub pieces : List (List ℕ)
@@ -86,8 +94,8 @@ pub record Went (takes : Bool) (talk rest : Rest) (old new : Ends) : Type 0 wher
   pub taken : Consumes old.left new.left read
   pub sent : Appends old.written new.written (concat pieces)
   pub fits : Fits takes old.port passed answers new.port
-  pub reads_later : old.read_faults ≤ new.read_faults
-  pub writes_later : old.write_faults ≤ new.write_faults
+  pub reads_calm : new.read_faults ≡ old.read_faults
+  pub writes_calm : new.write_faults ≡ old.write_faults
   pub goes : (more : List ℕ) (others : List Answer) → talk (read ++ more) (answers ++ others) ≡ front pieces passed (rest more others)
 
 -- the connection goes on, or it ended
@@ -107,10 +115,10 @@ pub record IsCut (old new : Option (List ℕ)) (before now size : ℕ) (end : Se
   pub bytes : List ℕ
   pub short : length bytes < size
   pub taken : Consumes old new bytes
-  pub cause : ((end ≡ Truncated) × IsAtEnd new) ⊎ ((end ≡ SourceFault) × (before < now))
+  pub cause : ((end ≡ Truncated) × IsAtEnd new × (now ≡ before)) ⊎ ((end ≡ SourceFault) × (before < now))
 
 -- these bytes were sent, or a front of them before the sink failed
 abbrev pub Sends : {T : Type 0} → Option (List ℕ) → Option (List ℕ) → ℕ → ℕ → List ℕ → Result T Served → Type 0
 Sends old new before now bytes result = MatchResult result
-    (λ _. Appends old new bytes × (before ≤ now))
+    (λ _. Appends old new bytes × (now ≡ before))
     (λ end. (end ≡ SinkFault) × AppendsFront old new bytes × (before < now))

@@ -1,5 +1,5 @@
 //! Takes just so many bytes from a source.
-ghost use Rattle.std.specs.Prelude.{◌≡◌, ℕ, ◌<◌, ◌≤◌, List, length, MatchResult};
+ghost use Rattle.std.specs.Prelude.{◌≡◌, ℕ, ◌<◌, List, length, MatchResult};
 ghost use Rattle.std.specs.Io.KnownBytes.{Consumes};
 ghost use Rattle.byte_ports.specs.Ports.{FillsTo, TakesSome};
 ghost use Rattle.nbd_session.specs.Sessions.{IsCut};
@@ -12,7 +12,7 @@ use byte_ports::{Source, read_full};
 pub(crate) fn pull<A: Source>(source: &mut A, out: &mut [u8]) -> Result<usize, Served>
     ensures { MatchResult result
         (λ count. FillsTo (A.left source.old) (A.left source.new) out.new count
-        × (A.faults source.old ≤ A.faults source.new))
+        × (A.faults source.new ≡ A.faults source.old))
         (λ end. (end ≡ Served.SourceFault) × TakesSome (A.left source.old) (A.left source.new) out.new
         × (A.faults source.old < A.faults source.new)) }
 {
@@ -26,7 +26,7 @@ pub(crate) fn pull<A: Source>(source: &mut A, out: &mut [u8]) -> Result<usize, S
 pub(crate) fn fill<A: Source>(source: &mut A, out: &mut [u8]) -> Result<(), Served>
     ensures { MatchResult result
         (λ _. Consumes (A.left source.old) (A.left source.new) out.new
-        × (A.faults source.old ≤ A.faults source.new))
+        × (A.faults source.new ≡ A.faults source.old))
         (IsCut (A.left source.old) (A.left source.new) (A.faults source.old) (A.faults source.new) (length out.new)) }
 {
     match read_full(source, out) {
@@ -45,7 +45,7 @@ pub(crate) fn skip<A: Source>(source: &mut A, size: usize, out: &mut [u8]) -> Re
     requires { 0 < length out.old }
     ensures { MatchResult result
         (λ _. (bytes : List ℕ) × (length bytes ≡ size) × Consumes (A.left source.old) (A.left source.new) bytes
-        × (A.faults source.old ≤ A.faults source.new))
+        × (A.faults source.new ≡ A.faults source.old))
         (IsCut (A.left source.old) (A.left source.new) (A.faults source.old) (A.faults source.new) size) }
 {
     let mut left = size;
@@ -65,7 +65,7 @@ pub(crate) fn skip_data<A: Source>(
 ) -> Result<(), Served>
     ensures { MatchResult result
         (λ _. (bytes : List ℕ) × (length bytes ≡ size) × Consumes (A.left source.old) (A.left source.new) bytes
-        × (A.faults source.old ≤ A.faults source.new))
+        × (A.faults source.new ≡ A.faults source.old))
         (IsCut (A.left source.old) (A.left source.new) (A.faults source.old) (A.faults source.new) size) }
 {
     if buffers.large.is_empty() {

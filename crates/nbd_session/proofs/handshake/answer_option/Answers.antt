@@ -17,11 +17,11 @@ returns-in_err-skip g c = λ takes more start port idle_more idle_start.
 
 pub returns-then-count-gt-MOST_DATA : goal.returns-then-count-gt-MOST_DATA
 returns-then-count-gt-MOST_DATA g c = λ takes more start port idle_more idle_start.
-    let (bytes, whole, taken, later) = c.in_ok-skip.ensures in
+    let (bytes, whole, taken, calm) = c.in_ok-skip.ensures in
     goes_after (in_phase more start) _ c.answer_long.result
     (went_read (after_option c.args.export.now c.args.sectors c.args.hello more start c.args.head) (answered more start (long_answer c.args.head.option))
     (g.A.Source.left c.args.source.now) (g.A.Source.left c.skip.new.source) (g.A.Source.faults c.args.source.now) (g.A.Source.faults c.skip.new.source)
-    (g.B.Sink.written c.args.sink.now) (g.B.Sink.faults c.args.sink.now) port bytes taken later
+    (g.B.Sink.written c.args.sink.now) (g.B.Sink.faults c.args.sink.now) port bytes taken calm
     (λ behind others. after_option-long c.args.export.now c.args.sectors c.args.hello more start c.args.head bytes behind others whole (omega arith)))
     (says_on takes more start (g.A.Source.left c.skip.new.source) (g.A.Source.faults c.skip.new.source)
     (g.B.Sink.written c.args.sink.now) (g.B.Sink.written c.answer_long.new.sink) (g.B.Sink.faults c.args.sink.now) (g.B.Sink.faults c.answer_long.new.sink) port

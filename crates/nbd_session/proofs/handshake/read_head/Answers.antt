@@ -28,5 +28,5 @@ returns-in-None g c = λ takes next written faults port.
     let bytes = c.fill.new.out in
     let long : length c.fill.new.out ≡ 16 = search rules in
     ended_word (with_head next) (g.A.Source.left c.args.source.now) (g.A.Source.left c.fill.new.source) _ _ written faults port BadMagic true bytes
-    c.in_ok-fill.ensures.0
-    (with_head-all next bytes [] long ∙ ap (λ o. after_head next o [] []) (sym c.in-None.ensures.reads)) (λ e. e)
+    c.in_ok-fill.ensures.0 c.in_ok-fill.ensures.1
+    (with_head-all next bytes [] long ∙ ap (λ o. after_head next o [] []) (sym c.in-None.ensures.reads)) (λ e. e) (λ e. cc) (λ e. cc)

@@ -28,5 +28,5 @@ returns-in-None g c = λ takes export n written faults port.
     let bytes = c.fill.new.out in
     let long : length c.fill.new.out ≡ 4 = search rules in
     ended_word (greeted export n) (g.A.Source.left c.args.source.now) (g.A.Source.left c.fill.new.source) _ _ written faults port BadHello true bytes
-    c.in_ok-fill.ensures.0
-    (greeted-all export n bytes [] long ∙ ap (λ o. after_hello export n o [] []) (sym c.in-None.ensures.reads)) (λ e. e)
+    c.in_ok-fill.ensures.0 c.in_ok-fill.ensures.1
+    (greeted-all export n bytes [] long ∙ ap (λ o. after_hello export n o [] []) (sym c.in-None.ensures.reads)) (λ e. e) (λ e. cc) (λ e. cc)

@@ -37,7 +37,7 @@ returns-in-Aborted g c = λ takes port.
     ended_after (went_option e n h c.loop.counter c.in_ok-serve_option.field-0 phase.Aborted c.in-Aborted.is (omega arith) (c.loop.invariant takes port)
     (c.in_ok-serve_option.ensures takes (left_options e n h c.loop.counter) (transmission e n (2 ^ 62)) port (left-idle e n h c.loop.counter) (start-idle e n h c.loop.counter)))
     (ended_word (λ bytes answers. stop_at Aborted false bytes) (g.A.Source.left c.serve_option.new.source) (g.A.Source.left c.serve_option.new.source) _ _
-    (g.B.Sink.written c.serve_option.new.sink) (g.B.Sink.faults c.serve_option.new.sink) port Aborted false [] (Consumes-nil _) refl (λ x. x))
+    (g.B.Sink.written c.serve_option.new.sink) (g.B.Sink.faults c.serve_option.new.sink) port Aborted false [] (Consumes-nil _) refl refl (λ e. e) (λ e. cc) (λ e. cc))
 
 pub returns-in-UnknownExport : goal.returns-in-UnknownExport
 returns-in-UnknownExport g c = λ takes port.
@@ -47,7 +47,7 @@ returns-in-UnknownExport g c = λ takes port.
     ended_after (went_option e n h c.loop.counter c.in_ok-serve_option.field-0 phase.UnknownExport c.in-UnknownExport.is (omega arith) (c.loop.invariant takes port)
     (c.in_ok-serve_option.ensures takes (left_options e n h c.loop.counter) (transmission e n (2 ^ 62)) port (left-idle e n h c.loop.counter) (start-idle e n h c.loop.counter)))
     (ended_word (λ bytes answers. stop_at UnknownExport false bytes) (g.A.Source.left c.serve_option.new.source) (g.A.Source.left c.serve_option.new.source) _ _
-    (g.B.Sink.written c.serve_option.new.sink) (g.B.Sink.faults c.serve_option.new.sink) port UnknownExport false [] (Consumes-nil _) refl (λ x. x))
+    (g.B.Sink.written c.serve_option.new.sink) (g.B.Sink.faults c.serve_option.new.sink) port UnknownExport false [] (Consumes-nil _) refl refl (λ e. e) (λ e. cc) (λ e. cc))
 
 pub loop-preserved : goal.loop-preserved
 loop-preserved g c = λ takes port.
@@ -69,4 +69,4 @@ returns g c = λ takes port.
     ended_after (went_trans (at_last c.args.export.now c.args.sectors c.args.hello c.loop.counter (omega arith) (c.loop.invariant takes port))
     (c.in_ok-read_head.ensures takes (λ head. too_many) (g.B.Sink.written c.loop.sink) (g.B.Sink.faults c.loop.sink) port))
     (ended_word too_many (g.A.Source.left c.read_head.new.source) (g.A.Source.left c.read_head.new.source) _ _
-    (g.B.Sink.written c.loop.sink) (g.B.Sink.faults c.loop.sink) port TooManyOptions true [] (Consumes-nil _) refl (λ x. x))
+    (g.B.Sink.written c.loop.sink) (g.B.Sink.faults c.loop.sink) port TooManyOptions true [] (Consumes-nil _) refl refl (λ e. e) (λ e. cc) (λ e. cc))

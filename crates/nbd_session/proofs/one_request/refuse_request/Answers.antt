@@ -19,7 +19,7 @@ pub returns : goal.returns
 returns g c = λ takes go port idle.
     let A = g.A.Source in
     let B = g.B.Sink in
-    let (bytes, whole, taken, later) = c.in_ok-skip_data.ensures in
+    let (bytes, whole, taken, calm) = c.in_ok-skip_data.ensures in
     refusal_replied takes go c.args.request.now (A.left c.args.source.now) (A.left c.skip_data.new.source) (A.faults c.args.source.now) (A.faults c.skip_data.new.source)
     (B.written c.args.sink.now) (B.written c.reply.new.sink) (B.faults c.args.sink.now) (B.faults c.reply.new.sink)
-    c.args.errno bytes port c.reply.result idle (whole ∙ c.data_length-size.ensures) taken later c.reply.ensures
+    c.args.errno bytes port c.reply.result idle (whole ∙ c.data_length-size.ensures) taken calm c.reply.ensures

@@ -1,4 +1,4 @@
-use Rattle.std.proofs.Common.{[], subst, sym, arith}
+use Rattle.std.proofs.Common.{[], subst, sym, refl}
 use Rattle.std.proofs.KnownBytes.{Consumes-nil}
 use Rattle.nbd_session.specs.declared.job.Job.TheVariants.{Zero, Flush}
 use Rattle.nbd_session.specs.Replies.{answer_of}
@@ -23,7 +23,7 @@ returns-in-Zero g c = λ go idle.
     (job_replied g.P.ImagePort.flush_takes_memory go c.args.request.now (A.left c.args.source.now) (A.left c.args.source.now) (A.faults c.args.source.now) (A.faults c.args.source.now)
     (B.written c.args.sink.now) (B.written c.reply.new.sink) (B.faults c.args.sink.now) (B.faults c.reply.new.sink)
     (Zero c.in-Zero.at c.in-Zero.count c.in-Zero.fua) [] (answer_of c.zero_sectors-answer.result) port (g.P.ImagePort.state c.zero_sectors-answer.new.port)
-    c.reply.result idle (sym inside.1) (Consumes-nil (A.left c.args.source.now)) (omega arith) (record { does = c.zero_sectors-answer.ensures.does; cause = c.zero_sectors-answer.ensures.cause }) c.reply.ensures)
+    c.reply.result idle (sym inside.1) (Consumes-nil (A.left c.args.source.now)) refl (record { does = c.zero_sectors-answer.ensures.does; cause = c.zero_sectors-answer.ensures.cause }) c.reply.ensures)
 
 pub returns-in-Flush : goal.returns-in-Flush
 returns-in-Flush g c = λ go idle.
@@ -35,4 +35,4 @@ returns-in-Flush g c = λ go idle.
     (job_replied g.P.ImagePort.flush_takes_memory go c.args.request.now (A.left c.args.source.now) (A.left c.args.source.now) (A.faults c.args.source.now) (A.faults c.args.source.now)
     (B.written c.args.sink.now) (B.written c.reply-in-Flush.new.sink) (B.faults c.args.sink.now) (B.faults c.reply-in-Flush.new.sink)
     Flush [] (answer_of c.flush_all-answer.result) port (g.P.ImagePort.state c.flush_all-answer.new.port)
-    c.reply-in-Flush.result idle (sym inside) (Consumes-nil (A.left c.args.source.now)) (omega arith) (record { does = c.flush_all-answer.ensures.does; cause = c.flush_all-answer.ensures.cause }) c.reply-in-Flush.ensures)
+    c.reply-in-Flush.result idle (sym inside) (Consumes-nil (A.left c.args.source.now)) refl (record { does = c.flush_all-answer.ensures.does; cause = c.flush_all-answer.ensures.cause }) c.reply-in-Flush.ensures)

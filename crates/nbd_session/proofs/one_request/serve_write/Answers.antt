@@ -24,10 +24,10 @@ returns-then-is_err g c = λ go idle.
     let A = g.A.Source in
     let B = g.B.Sink in
     let port = g.P.ImagePort.state c.args.port.now in
-    let (bytes, whole, taken, later) = c.in_ok-skip_data.ensures in
+    let (bytes, whole, taken, calm) = c.in_ok-skip_data.ensures in
     job_replied g.P.ImagePort.flush_takes_memory go c.args.request.now (A.left c.args.source.now) (A.left c.skip_data.new.source) (A.faults c.args.source.now) (A.faults c.skip_data.new.source)
     (B.written c.args.sink.now) (B.written c.reply.new.sink) (B.faults c.args.sink.now) (B.faults c.reply.new.sink)
-    (Write c.args.change.at c.args.change.count c.args.change.fua) bytes (Bad errno.Memory) port port c.reply.result idle (whole ∙ sym c.requires.2) taken later
+    (Write c.args.change.at c.args.change.count c.args.change.fua) bytes (Bad errno.Memory) port port c.reply.result idle (whole ∙ sym c.requires.2) taken calm
     (write-no_memory g.P.ImagePort.flush_takes_memory port c.args.change.at c.args.change.count c.args.change.fua bytes) c.reply.ensures
 
 pub returns-in_err-fill : goal.returns-in_err-fill

@@ -11,11 +11,11 @@ returns-in_err-count g c = λ takes export n go written writes port.
 
 pub returns-then-count-eq0 : goal.returns-then-count-eq0
 returns-then-count-eq0 g c = λ takes export n go written writes port.
-    request-none takes export n go _ _ _ _ written writes port c.pull.new.out c.in_ok-count.count (search rules) c.in_ok-count.ensures.0 c.if-count-eq0.true
+    request-none takes export n go _ _ _ _ written writes port c.pull.new.out c.in_ok-count.count (search rules) c.in_ok-count.ensures.0 c.in_ok-count.ensures.1 c.if-count-eq0.true
 
 pub returns-then-count-lt28 : goal.returns-then-count-lt28
 returns-then-count-lt28 g c = λ takes export n go written writes port.
-    request-short takes export n go _ _ _ _ written writes port c.pull.new.out c.in_ok-count.count (search rules) c.in_ok-count.ensures.0 c.if-count-eq0.false c.if-count-lt28.true
+    request-short takes export n go _ _ _ _ written writes port c.pull.new.out c.in_ok-count.count (search rules) c.in_ok-count.ensures.0 c.in_ok-count.ensures.1 c.if-count-eq0.false c.if-count-lt28.true
 
 pub returns-in-Some : goal.returns-in-Some
 returns-in-Some g c = λ takes export n go written writes port.
@@ -24,5 +24,5 @@ returns-in-Some g c = λ takes export n go written writes port.
 
 pub returns-in-None : goal.returns-in-None
 returns-in-None g c = λ takes export n go written writes port.
-    request-magic takes export n go _ _ _ _ written writes port c.pull.new.out c.in_ok-count.count (search rules) c.in_ok-count.ensures.0 c.if-count-lt28.false
+    request-magic takes export n go _ _ _ _ written writes port c.pull.new.out c.in_ok-count.count (search rules) c.in_ok-count.ensures.0 c.in_ok-count.ensures.1 c.if-count-lt28.false
     (sym c.decode_request.ensures.reads ∙ c.in-None.is)
