@@ -1,12 +1,11 @@
 -- From the clause of a connection to the one history.
-use Rattle.std.proofs.Common.{◌≡◌, ℕ, Bool, IsTrue, false, List, [], ◌∷◌, ◌++◌, map, refl, sym, ap, ◌∙◌, subst}
+use Rattle.std.proofs.Common.{ℕ, false, List, [], ◌∷◌, ◌++◌, refl, ap, ◌∙◌}
 use Rattle.flat_image.specs.declared.act.Act.{Act}
 use Rattle.flat_image.specs.declared.act.Act.TheVariants as act
 use Rattle.flat_image.specs.Entries.{entry, calls_by, StartsWith}
 use Rattle.flat_image.specs.History.{History}
 use Rattle.flat_image.specs.Ports.{PortState}
 use Rattle.flat_image.proofs.Entries.{StartsWith-trans, calls_by-append}
-use Rattle.nbd_session.specs.declared.errno.Errno.{Errno}
 use Rattle.nbd_session.specs.declared.export.Export.{Export}
 use Rattle.nbd_session.specs.declared.job.Job.{Job}
 use Rattle.nbd_session.specs.declared.job.Job.TheVariants.{Read, Write, Zero, Flush}
@@ -17,7 +16,7 @@ use Rattle.nbd_session.specs.Talks.{Passed, talk}
 use Rattle.nbd_session.specs.Sessions.{Ends, Ended, Serves}
 use Rattle.nbd_session.specs.SessionLaws.{AreAnswered, Holds, FitsHistory}
 use Rattle.nbd_session.specs.Fits.{Fits}
-use Rattle.image_read.specs.Headline.{IsReadAt, IsReadWell, AreReadWell, IsServedIn, Headline}
+use Rattle.image_read.specs.Headline.{IsReadWell, AreReadWell, IsServedIn, Headline}
 
 -- one request
 read-well : (old new : PortState) (history : History) → StartsWith history new.seen → (before : List Act) (job : Job) (items : List ℕ) (noted : List Act) (answer : Answer)
@@ -56,6 +55,7 @@ served-in export old new end history law e begun =
       answers = e.answers;
       taken = e.taken;
       replies = e.why;
+      faults = e.faults;
       begins = StartsWith-trans history new.port.seen old.port.seen begun (record { rest = f.more; is = f.seen });
       acts = f.acts;
       own = ap (calls_by old.port.number) f.seen ∙ (calls_by-append old.port.number old.port.seen f.more

@@ -1,5 +1,5 @@
 -- What a connection over a shared image is sent, said of the one history of the image.
-use Rattle.std.specs.Prelude.{◌≡◌, ℕ, Bool, IsTrue, false, List, [], ◌∷◌, ◌++◌, take, drop, map, ⊤}
+use Rattle.std.specs.Prelude.{◌≡◌, ℕ, IsTrue, false, List, [], ◌∷◌, ◌++◌, take, drop, map, ⊤}
 use Rattle.std.specs.Io.KnownBytes.{Consumes}
 use Rattle.flat_image.specs.declared.act.Act.{Act}
 use Rattle.flat_image.specs.declared.act.Act.TheVariants as act
@@ -7,7 +7,6 @@ use Rattle.flat_image.specs.Sheets.{bytes_of}
 use Rattle.flat_image.specs.Entries.{entry, calls_by, StartsWith}
 use Rattle.flat_image.specs.History.{History, after}
 use Rattle.flat_image.specs.Ports.{PortState}
-use Rattle.nbd_session.specs.declared.errno.Errno.{Errno}
 use Rattle.nbd_session.specs.declared.export.Export.{Export}
 use Rattle.nbd_session.specs.declared.job.Job.{Job}
 use Rattle.nbd_session.specs.declared.job.Job.TheVariants.{Read, Write, Zero, Flush}
@@ -15,7 +14,7 @@ use Rattle.nbd_session.specs.declared.served.Served.{Served}
 use Rattle.nbd_session.specs.declared.served.Served.TheVariants.{Memory}
 use Rattle.nbd_session.specs.Replies.{Answer, Good, Bad}
 use Rattle.nbd_session.specs.Talks.{Passed, talk}
-use Rattle.nbd_session.specs.Sessions.{Ends, Why}
+use Rattle.nbd_session.specs.Sessions.{Ends, TellsFaults, Why}
 use Rattle.nbd_session.specs.SessionLaws.{AreAnswered}
 
 -- The bytes of a read are those of the flat image, its layers painted bottom up and then each write and zero before it, at
@@ -48,6 +47,8 @@ pub record IsServedIn (export : Export) (old new : Ends) (end : Served) (history
   pub taken : Consumes old.left new.left read
   -- the bytes that it is sent are the NBD replies to the bytes that it sent
   pub replies : Why old new (talk export old.port.base.sectors read answers) end
+  -- no fault of its source or its sink was passed over
+  pub faults : TellsFaults old new end
   -- the history begins with all that the connection had seen
   pub begins : StartsWith history old.port.seen
   -- and has each of its calls once: its own entries, behind what it had seen, are those that its requests noted, in order
