@@ -62,14 +62,17 @@ lies-over told count layers tells s faults p base are long same lowers stands = 
   lowers = IfSome-each told (λ files e. lowers ∙ ap (λ (o : Option (List (List ℕ))). lowers_from o layers) e);
 }
 
-pub opened : (told : Option (List (List ℕ))) (count : ℕ) (layers : List LayerIndex) (tells : Bool) (s s' : DiskState) (f f' : ℕ) (p : Parts) → AreStackedFiles told count → length layers ≡ count → p.stack.lowers ≡ layers
+pub opened : (told : Option (List (List ℕ))) (count : ℕ) (layers : List LayerIndex) (tells : Bool) (s s' : DiskState) (f f' : ℕ) (p : Parts) → f' ≡ f → AreStackedFiles told count → length layers ≡ count → p.stack.lowers ≡ layers
     → seen.IsOpened s told (record { tells = tells; state = s'; faults = f'; parts = p })
     → IsOpened told count (record { tells = tells; state = s; faults = f }) (record { tells = tells; state = s'; faults = f'; parts = p })
-opened told count layers tells s s' f f' p are long same is = (
+opened told count layers tells s s' f f' p counted are long same is = (
   is.base,
-  lies-over told count layers tells s' f' p is.base are long same (is.starts.lowers_are ∙ ap (lowers_from told) same) is.stands,
-  record { shows = is.starts.told; unworn = is.unworn },
-  is.stands,
+  (
+    lies-over told count layers tells s' f' p is.base are long same (is.starts.lowers_are ∙ ap (lowers_from told) same) is.stands,
+    record { shows = is.starts.told; unworn = is.unworn },
+    is.starts.faults_are ∙ counted,
+    is.stands,
+  ),
 )
 
 -- it was not opened

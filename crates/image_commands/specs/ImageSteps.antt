@@ -45,10 +45,13 @@ use Rattle.image_commands.specs.ImageCauses.{HaveOtherSize, HasSize, HoldsNone}
 abbrev pub size_of : Seen → ℕ
 size_of image = (parts_view image.parts).sectors
 
--- an image that was opened: it stands for nothing done over a base that is found on the disk, over the shelf's layers
+-- the image was opened over this base: the disk's files show it, over the shelf's layers, and its faults are those counted
+abbrev pub IsBaseOf : Option (List (List ℕ)) → ℕ → DiskPort → Seen → Base → Type 0
+IsBaseOf told count disk image base = LiesOver told count base × IsFound disk base × (base.faults ≡ disk.faults) × StandsFor image base []
+
+-- an image that was opened: it stands for nothing done over some such base
 abbrev pub IsOpened : Option (List (List ℕ)) → ℕ → DiskPort → Seen → Type 0
-IsOpened told count disk image =
-    (base : Base) × LiesOver told count base × IsFound disk base × StandsFor image base []
+IsOpened told count disk image = (base : Base) × IsBaseOf told count disk image base
 
 -- why no image was opened
 abbrev pub OpenCause : Option (List (List ℕ)) → ℕ → (shelf shelf_now : ℕ) → (disk disk_now : DiskPort) → ImageRefusal → Type 0

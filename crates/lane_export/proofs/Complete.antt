@@ -103,7 +103,7 @@ module _ {P A B : Type 0} (w : Ways A B) (base : Base) (tells : P → Bool) (she
       → image.faults ≤ base.faults → AllZip (λ x y. faults y ≤ faults x) olds news → (code ≡ 0) ⊎ (code ≡ 5) ⊎ (image.parts.steps ≡ 2 ^ 62)
   run-clear export_end.Flushed code is s steady calm = inl is
   run-clear export_end.Memory code is s steady calm = inr (inl is)
-  run-clear export_end.ListenerFailed code is s steady calm = absurd (listeners-clear export_end.ListenerFailed s calm s.why)
+  run-clear export_end.ListenerFailed code is s steady calm = absurd (listeners-clear export_end.ListenerFailed s calm s.why.0)
   run-clear export_end.FlushFailed code is s steady calm =
       let some = last-fault s.history s.why.1.0 (length olds) s.why.1.1 in
       let failed = s.stands.failed in

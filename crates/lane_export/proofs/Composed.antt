@@ -1,5 +1,5 @@
 -- What the lanes come to once the lock is closed.
-use Rattle.std.proofs.Common.{map, Bool, true, ◌≡◌, ℕ, ◌+◌, ◌<◌, ◌≤◌, Option, List, [], ◌∷◌, ◌++◌, length, get_or, All, false, Result, Ok, Err, MatchResult, refl, sym, ap, ◌∙◌, subst, inl, inr, arith, length-append}
+use Rattle.std.proofs.Common.{map, Bool, true, ◌≡◌, ℕ, ◌+◌, ◌<◌, ◌≤◌, ◌^◌, Option, List, [], ◌∷◌, ◌++◌, length, get_or, All, false, Result, Ok, Err, MatchResult, refl, sym, ap, ◌∙◌, subst, inl, inr, arith, length-append}
 use Rattle.std.proofs.lemmas.List.{get_or_append_left}
 use Rattle.std.proofs.lemmas.Bool.Decides.{leb_tells}
 use Rattle.atomic_table.specs.Seated.{TableId}
@@ -20,7 +20,7 @@ use Rattle.lane_serve.specs.Listeners.{Listening}
 use Rattle.lane_serve.specs.Lanes.{Ways}
 use Rattle.control_session.specs.declared.control_end.ControlEnd.{ControlEnd}
 use Rattle.control_session.specs.Sessions.{Ends}
-use Rattle.lane_export.specs.Lanes.{Member, LaneDone, LaneIn, AreFirst, any_failed, end_by, WhyEnded, HasServed, Exports, Stream, ControlStart, ControlDone, ControlIn, IsLast}
+use Rattle.lane_export.specs.Lanes.{Member, LaneDone, LaneIn, AreFirst, any_failed, end_by, EndsWith, WhyEnded, HasServed, Exports, Stream, ControlStart, ControlDone, ControlIn, IsLast}
 use Rattle.flat_image.specs.declared.base.Base.{Base}
 use Rattle.image_core.specs.Seen.{Seen}
 use Rattle.lane_export.specs.declared.export_end.ExportEnd.{ExportEnd}
@@ -145,22 +145,49 @@ last-act seats before control history p q n acts h number old_number count numbe
     let own : calls_by n notes.more ≡ map (entry n) acts = ap (λ (m : ℕ). calls_by m notes.more) (sym (pn ∙ old_number)) ∙ (notes.own ∙ ap (λ (m : ℕ). map (entry m) acts) (pn ∙ old_number)) in
     (whole ∙ sym qs, split ∙ ap (λ (l : History). before.seen ++ l) (sym (only_own n notes.more none) ∙ own))
 
+-- what the last flush came to: its entry is the last one, or the history is full
+abbrev EndsBy : {T : Type 0} → Result T PortFault → History → ℕ → Type 0
+EndsBy (Ok done) history number = EndsWith history number Flush
+EndsBy (Err fault.Worn) history number = length history ≡ 2 ^ 62
+EndsBy (Err (fault.Full rows sectors)) history number = ⊥
+EndsBy (Err fault.Memory) history number = ⊥
+EndsBy (Err fault.Failed) history number = EndsWith history number (Fault Nothing)
+
+last-ends : {T : Type 0} (last : Result T PortFault) (seats : List (Place Act)) (before control : Place Act) (history : History) (p q : PortState) (n : ℕ)
+    → MatchResult last (λ _. Flushes p q) (FlushFails false p q) → q.first ≡ 0
+    → IsHistory (seats ++ control ∷ []) history → control.number ≡ n → before.number ≡ n → length seats ≡ n
+    → ((k : ℕ) (d : Place Act) → k < length seats → (get_or seats k d).number ≡ k) → All (λ s. StartsWith before.seen s.seen) seats
+    → p.seen ≡ before.seen → p.number ≡ before.number → q.seen ≡ control.seen → EndsBy last history n
+last-ends (Ok done) seats before control history p q n answer at_zero h number old_number count numbered met ps pn qs =
+    (before.seen, (last-act seats before control history p q n (Flush ∷ []) h number old_number count numbered met ps pn qs answer.notes).1)
+last-ends (Err fault.Worn) seats before control history p q n answer at_zero h number old_number count numbered met ps pn qs =
+    let same = (last-act seats before control history p q n [] h number old_number count numbered met ps pn qs answer.1).0 in
+    let worn = answer.0 in let long : length history ≡ length q.seen = ap (λ (l : History). length l) same in omega (arith, worn, long, at_zero)
+last-ends (Err (fault.Full rows sectors)) seats before control history p q n answer at_zero h number old_number count numbered met ps pn qs = absurd answer
+last-ends (Err fault.Memory) seats before control history p q n answer at_zero h number old_number count numbered met ps pn qs = absurd (let takes : false ≡ true = answer.1 in cc)
+last-ends (Err fault.Failed) seats before control history p q n answer at_zero h number old_number count numbered met ps pn qs =
+    (before.seen, (last-act seats before control history p q n (Fault Nothing ∷ []) h number old_number count numbered met ps pn qs answer.1).1)
+
+why-by : {T : Type 0} (ends : List LaneEnd) (failed : Bool) (last : Result T PortFault) (history : History) (n : ℕ) → failed ≡ any_failed ends → EndsBy last history n → WhyEnded ends history n (end_by failed last)
+why-by ends true (Ok done) history n is flushed = (sym is, inl flushed)
+why-by ends true (Err fault.Worn) history n is worn = (sym is, inr (inr worn))
+why-by ends true (Err (fault.Full rows sectors)) history n is none = absurd none
+why-by ends true (Err fault.Memory) history n is none = absurd none
+why-by ends true (Err fault.Failed) history n is failed = (sym is, inr (inl failed))
+why-by ends false (Ok done) history n is flushed = (sym is, flushed)
+why-by ends false (Err fault.Worn) history n is worn = (sym is, worn)
+why-by ends false (Err (fault.Full rows sectors)) history n is none = absurd none
+why-by ends false (Err fault.Memory) history n is none = absurd none
+why-by ends false (Err fault.Failed) history n is failed = (sym is, failed)
+
 -- why the export ended so, by the last flush
 pub why-ended : {T : Type 0} (ends : List LaneEnd) (failed : Bool) (last : Result T PortFault) (seats : List (Place Act)) (before control : Place Act) (history : History) (p q : PortState) (n : ℕ)
     → failed ≡ any_failed ends → MatchResult last (λ _. Flushes p q) (FlushFails false p q) → q.first ≡ 0
     → IsHistory (seats ++ control ∷ []) history → control.number ≡ n → before.number ≡ n → length seats ≡ n
     → ((k : ℕ) (d : Place Act) → k < length seats → (get_or seats k d).number ≡ k) → All (λ s. StartsWith before.seen s.seen) seats
     → p.seen ≡ before.seen → p.number ≡ before.number → q.seen ≡ control.seen → WhyEnded ends history n (end_by failed last)
-why-ended ends true last seats before control history p q n is answer at_zero h number old_number count numbered met ps pn qs = sym is
-why-ended ends false (Ok done) seats before control history p q n is answer at_zero h number old_number count numbered met ps pn qs =
-    (sym is, (before.seen, (last-act seats before control history p q n (Flush ∷ []) h number old_number count numbered met ps pn qs answer.notes).1))
-why-ended ends false (Err fault.Worn) seats before control history p q n is answer at_zero h number old_number count numbered met ps pn qs =
-    let same = (last-act seats before control history p q n [] h number old_number count numbered met ps pn qs answer.1).0 in
-    (sym is, (let worn = answer.0 in let long : length history ≡ length q.seen = ap (λ (l : History). length l) same in omega (arith, worn, long, at_zero)))
-why-ended ends false (Err (fault.Full rows sectors)) seats before control history p q n is answer at_zero h number old_number count numbered met ps pn qs = absurd answer
-why-ended ends false (Err fault.Memory) seats before control history p q n is answer at_zero h number old_number count numbered met ps pn qs = absurd (let takes : false ≡ true = answer.1 in cc)
-why-ended ends false (Err fault.Failed) seats before control history p q n is answer at_zero h number old_number count numbered met ps pn qs =
-    (sym is, (before.seen, (last-act seats before control history p q n (Fault Nothing ∷ []) h number old_number count numbered met ps pn qs answer.1).1))
+why-ended ends failed last seats before control history p q n is answer at_zero h number old_number count numbered met ps pn qs =
+    why-by ends failed last history n is (last-ends last seats before control history p q n answer at_zero h number old_number count numbered met ps pn qs)
 
 -- a history of seats that have seen nothing is empty
 pub closed-empty : (id : TableId) (n : ℕ) (seats : List (Place Act)) (history : History) → AreSeats id n seats → All (λ s. s.seen ≡ []) seats → IsHistory seats history → history ≡ []

@@ -1,5 +1,5 @@
 -- The base over which an image was opened, before and after.
-use Rattle.std.proofs.Common.{◌≡◌, ℕ, Bool, IsTrue, List, Option, sym, subst}
+use Rattle.std.proofs.Common.{◌≡◌, ℕ, ◌∙◌, Bool, IsTrue, List, Option, sym, subst}
 use Rattle.std.specs.Prelude.{IfSome}
 use Rattle.std.specs.Option.{ForSome}
 use Rattle.block_disk.specs.DiskState.{DiskState, Files}
@@ -22,13 +22,16 @@ found-same tells s t f g base same h =
     let moved : FoundIn tells t.seen base = subst (λ (files : Files). FoundIn tells files base) (sym same) (h.shows, h.unworn) in
     record { shows = moved.0; unworn = moved.1 }
 
-pub opened-now : (told told_now : Option (List (List ℕ))) (count count_now : ℕ) (tells : Bool) (s t : DiskState) (f g : ℕ) (image : Seen) → told_now ≡ told → count_now ≡ count → Quiet s t
+pub opened-now : (told told_now : Option (List (List ℕ))) (count count_now : ℕ) (tells : Bool) (s t : DiskState) (f g : ℕ) (image : Seen) → told_now ≡ told → count_now ≡ count → g ≡ f → Quiet s t
     → IsOpened told count (record { tells = tells; state = s; faults = f }) image → IsOpened told_now count_now (record { tells = tells; state = t; faults = g }) image
-opened-now told told_now count count_now tells s t f g image files number quiet h = (
+opened-now told told_now count count_now tells s t f g image files number counted quiet h = (
   h.0,
-  subst (λ (o : Option (List (List ℕ))). LiesOver o count_now h.0) (sym files) (subst (λ (n : ℕ). LiesOver told n h.0) (sym number) h.1),
-  found-same tells s t f g h.0 (quiet-seen s t quiet) h.2,
-  h.3,
+  (
+    subst (λ (o : Option (List (List ℕ))). LiesOver o count_now h.0) (sym files) (subst (λ (n : ℕ). LiesOver told n h.0) (sym number) h.1.0),
+    found-same tells s t f g h.0 (quiet-seen s t quiet) h.1.1,
+    h.1.2 ∙ sym counted,
+    h.1.3,
+  ),
 )
 
 pub lies-before : (told told_now : Option (List (List ℕ))) (count count_now : ℕ) (base : Base) → told_now ≡ told → count_now ≡ count → LiesOver told_now count_now base → LiesOver told count base

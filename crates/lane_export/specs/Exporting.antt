@@ -41,10 +41,6 @@ moment a b disk shelf lanes source sink = record { disk = disk; shelf = shelf; l
 abbrev pub HaveSameFiles : {S L : Type 0} → (S → Option (List (List ℕ))) → (S → ℕ) → S → List (S × L) → Type 0
 HaveSameFiles files count shelf lanes = All (λ pair. (count pair.0 ≡ count shelf) × (files pair.0 ≡ files shelf)) lanes
 
--- the image was opened over this base: the disk's files show it, over the shelf's layers, and its faults are those counted
-abbrev pub IsBaseOf : Option (List (List ℕ)) → ℕ → DiskPort → Seen → Base → Type 0
-IsBaseOf told count disk image base = LiesOver told count base × IsFound disk base × (base.faults ≡ disk.faults) × StandsFor image base []
-
 -- the status by how the export ended
 abbrev pub end_code : ExportEnd → ℕ
 end_code end.Flushed = 0

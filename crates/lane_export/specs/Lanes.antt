@@ -157,11 +157,15 @@ end_by false (Err fault.Failed) = export_end.FlushFailed
 abbrev pub EndsWith : History → ℕ → Act → Type 0
 EndsWith history number act = (before : History) × (history ≡ before ++ entry number act ∷ [])
 
--- why an export ended so: the control flushed last; a listener failed; the control's last flush failed; or the history is
--- full. The fault of a listener comes first
+-- the caller with that number asked for the last flush: it was made, it failed, or the history is full
+abbrev pub IsFlushAsked : History → ℕ → Type 0
+IsFlushAsked history number = EndsWith history number Flush ⊎ (EndsWith history number (Fault Nothing) ⊎ (length history ≡ 2 ^ 62))
+
+-- why an export ended so: the control flushed last; a listener failed, where the control asked for the last flush all the same;
+-- the control's last flush failed; or the history is full. The fault of a listener comes first
 abbrev pub WhyEnded : List LaneEnd → History → ℕ → ExportEnd → Type 0
 WhyEnded ends history number export_end.Flushed = (any_failed ends ≡ false) × EndsWith history number Flush
-WhyEnded ends history number export_end.ListenerFailed = any_failed ends ≡ true
+WhyEnded ends history number export_end.ListenerFailed = (any_failed ends ≡ true) × IsFlushAsked history number
 WhyEnded ends history number export_end.FlushFailed = (any_failed ends ≡ false) × EndsWith history number (Fault Nothing)
 WhyEnded ends history number export_end.Worn = (any_failed ends ≡ false) × (length history ≡ 2 ^ 62)
 WhyEnded ends history number export_end.Memory = ⊥

@@ -3,7 +3,7 @@
 pub enum ExportEnd {
     /// All lanes were served, and the last flush was made.
     Flushed,
-    /// The listener of a lane failed. The last flush may have been made.
+    /// The listener of a lane failed. The last flush was asked for all the same.
     ListenerFailed,
     /// The disk failed at the last flush.
     FlushFailed,

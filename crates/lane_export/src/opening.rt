@@ -2,10 +2,10 @@
 ghost use Rattle.std.specs.Prelude.{◌≡◌, ◌≤◌, false, length, All};
 ghost use Rattle.image_core.specs.Seen.{seen, disk_of};
 ghost use Rattle.image_commands.specs.Images.{disk_port};
-ghost use Rattle.image_commands.specs.ImageSteps.{IsOpened};
+ghost use Rattle.image_commands.specs.ImageSteps.{IsBaseOf, IsOpened};
 ghost use Rattle.lane_serve.specs.Listeners.{IsFresh};
 ghost use Rattle.lane_export.specs.Lanes.{ways_of};
-ghost use Rattle.lane_export.specs.Exporting.{HaveSameFiles, HasExported, IsBaseOf, IsComplete, end_code, moment};
+ghost use Rattle.lane_export.specs.Exporting.{HaveSameFiles, HasExported, IsComplete, end_code, moment};
 
 use crate::cached_lanes::export_cached;
 use crate::export_end::ExportEnd;
@@ -37,7 +37,7 @@ struct Opened;
 impl<D: Disk, S: Shelf> Property<Mounted<D, S>, Base> for Opened {
     ghost use Rattle.image_core.specs.Seen.{seen, disk_of};
     ghost use Rattle.image_commands.specs.Images.{disk_port};
-    ghost use Rattle.lane_export.specs.Exporting.{IsBaseOf};
+    ghost use Rattle.image_commands.specs.ImageSteps.{IsBaseOf};
 
     ghost holds = { λ m base. IsBaseOf (S.files m.shelf) (S.count m.shelf) (disk_port D.Disk (disk_of m.image))
         (seen D.Disk m.image) base };

@@ -20,7 +20,7 @@ returns-clause-done g c =
     λ left left_now source source_now.
     let before : Ports = record { left = left; source_faults = source; written = g.B.Sink.written c.args.out.now; sink_faults = g.B.Sink.faults c.args.out.now; files = g.S.Shelf.files c.args.shelf.now; count = g.S.Shelf.count c.args.shelf.now; shelf_faults = g.S.Shelf.faults c.args.shelf.now } in
     let now : Ports = record { left = left_now; source_faults = source_now; written = g.B.Sink.written c.commit_told-result.new.out; sink_faults = g.B.Sink.faults c.commit_told-result.new.out; files = g.S.Shelf.files c.open_image.new.shelf; count = g.S.Shelf.count c.open_image.new.shelf; shelf_faults = g.S.Shelf.faults c.open_image.new.shelf } in
-    rw (c.as_command.ensures, c.into_disk.ensures) (ok-told c.commit_told-result.result _ (commit-done c.args.uuid before now disk old new opened.0 (λ t. t) opened.1 opened.2 opened.3 c.commit_told-result.result
+    rw (c.as_command.ensures, c.into_disk.ensures) (ok-told c.commit_told-result.result _ (commit-done c.args.uuid before now disk old new opened.0 (λ t. t) opened.1.0 opened.1.1 opened.1.3 c.commit_told-result.result
     (λ tells f. g.met.D.Disk.seen_may_stay c.commit_told-result.new.image.disk f tells) c.commit_told-result.ensures.free c.commit_told-result.ensures.adds c.commit_told-result.ensures.told))
 
 pub returns-clause-refused : goal.returns-clause-refused
@@ -32,7 +32,7 @@ returns-clause-refused g c =
     λ left left_now source source_now.
     let before : Ports = record { left = left; source_faults = source; written = g.B.Sink.written c.args.out.now; sink_faults = g.B.Sink.faults c.args.out.now; files = g.S.Shelf.files c.args.shelf.now; count = g.S.Shelf.count c.args.shelf.now; shelf_faults = g.S.Shelf.faults c.args.shelf.now } in
     let now : Ports = record { left = left_now; source_faults = source_now; written = g.B.Sink.written c.commit_told-result.new.out; sink_faults = g.B.Sink.faults c.commit_told-result.new.out; files = g.S.Shelf.files c.open_image.new.shelf; count = g.S.Shelf.count c.open_image.new.shelf; shelf_faults = g.S.Shelf.faults c.open_image.new.shelf } in
-    rw (c.as_command.ensures, c.into_disk.ensures) (err-told c.commit_told-result.result (CommandCause (Commit c.args.uuid) before now disk (port_of new)) (commit-failed c.args.uuid before now disk old new opened.0 (λ t. t) opened.1 opened.2 opened.3 c.commit_told-result.result
+    rw (c.as_command.ensures, c.into_disk.ensures) (err-told c.commit_told-result.result (CommandCause (Commit c.args.uuid) before now disk (port_of new)) (commit-failed c.args.uuid before now disk old new opened.0 (λ t. t) opened.1.0 opened.1.1 opened.1.3 c.commit_told-result.result
     before.sink_faults c.in-Ok.ensures.quiet (let e = c.in-Ok.ensures.cause in omega (arith, e)) (omega arith) c.commit_told-result.ensures.refused))
 
 pub returns-in-Err-clause-refused : goal.returns-in-Err-clause-refused

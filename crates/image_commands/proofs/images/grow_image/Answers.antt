@@ -20,8 +20,8 @@ returns-clause-done g c =
     λ left left_now source source_now.
     let before : Ports = record { left = left; source_faults = source; written = g.B.Sink.written c.args.out.now; sink_faults = g.B.Sink.faults c.args.out.now; files = g.S.Shelf.files c.args.shelf.now; count = g.S.Shelf.count c.args.shelf.now; shelf_faults = g.S.Shelf.faults c.args.shelf.now } in
     let now : Ports = record { left = left_now; source_faults = source_now; written = g.B.Sink.written c.grow_told-result.new.out; sink_faults = g.B.Sink.faults c.grow_told-result.new.out; files = g.S.Shelf.files c.open_image.new.shelf; count = g.S.Shelf.count c.open_image.new.shelf; shelf_faults = g.S.Shelf.faults c.open_image.new.shelf } in
-    let opens : Opens (Grow c.args.sectors) before disk [] opened.0 = record { takes = refl; over = opened.1; starts = opened.2 } in
-    rw (c.as_command.ensures, c.into_disk.ensures) (ok-told c.grow_told-result.result _ (grow-done c.args.sectors before now disk old new opened.0 opens opened.3 c.grow_told-result.result
+    let opens : Opens (Grow c.args.sectors) before disk [] opened.0 = record { takes = refl; over = opened.1.0; starts = opened.1.1 } in
+    rw (c.as_command.ensures, c.into_disk.ensures) (ok-told c.grow_told-result.result _ (grow-done c.args.sectors before now disk old new opened.0 opens opened.1.3 c.grow_told-result.result
     (λ tells f. g.met.D.Disk.seen_may_stay c.grow_told-result.new.image.disk f tells) c.grow_told-result.ensures.adds c.grow_told-result.ensures.told))
 
 pub returns-clause-refused : goal.returns-clause-refused
@@ -33,8 +33,8 @@ returns-clause-refused g c =
     λ left left_now source source_now.
     let before : Ports = record { left = left; source_faults = source; written = g.B.Sink.written c.args.out.now; sink_faults = g.B.Sink.faults c.args.out.now; files = g.S.Shelf.files c.args.shelf.now; count = g.S.Shelf.count c.args.shelf.now; shelf_faults = g.S.Shelf.faults c.args.shelf.now } in
     let now : Ports = record { left = left_now; source_faults = source_now; written = g.B.Sink.written c.grow_told-result.new.out; sink_faults = g.B.Sink.faults c.grow_told-result.new.out; files = g.S.Shelf.files c.open_image.new.shelf; count = g.S.Shelf.count c.open_image.new.shelf; shelf_faults = g.S.Shelf.faults c.open_image.new.shelf } in
-    let opens : Opens (Grow c.args.sectors) before disk [] opened.0 = record { takes = refl; over = opened.1; starts = opened.2 } in
-    rw (c.as_command.ensures, c.into_disk.ensures) (err-told c.grow_told-result.result (CommandCause (Grow c.args.sectors) before now disk (port_of new)) (grow-failed c.args.sectors before now disk old new opened.0 opens opened.3 c.grow_told-result.result
+    let opens : Opens (Grow c.args.sectors) before disk [] opened.0 = record { takes = refl; over = opened.1.0; starts = opened.1.1 } in
+    rw (c.as_command.ensures, c.into_disk.ensures) (err-told c.grow_told-result.result (CommandCause (Grow c.args.sectors) before now disk (port_of new)) (grow-failed c.args.sectors before now disk old new opened.0 opens opened.1.3 c.grow_told-result.result
     before.sink_faults c.in-Ok.ensures.quiet (let e = c.in-Ok.ensures.cause in omega (arith, e)) (omega arith) c.grow_told-result.ensures.refused))
 
 pub returns-in-Err-clause-refused : goal.returns-in-Err-clause-refused

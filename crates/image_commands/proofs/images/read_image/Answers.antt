@@ -19,7 +19,7 @@ pub copy_sectors-result-requires-clause-count : goal.copy_sectors-result-require
 copy_sectors-result-requires-clause-count g c =
     let image : Seen = record { tells = g.D.Disk.tells; state = g.D.Disk.state c.in-Ok.image.disk; faults = g.D.Disk.faults c.in-Ok.image.disk; parts = c.in-Ok.image.parts } in
     let opened = c.in-Ok.ensures.opened in
-    c.in-Ok.ensures.same.count ∙ lowers-count image opened.0 opened.3 (g.S.Shelf.files c.args.shelf.now) (g.S.Shelf.count c.args.shelf.now) opened.1
+    c.in-Ok.ensures.same.count ∙ lowers-count image opened.0 opened.1.3 (g.S.Shelf.files c.args.shelf.now) (g.S.Shelf.count c.args.shelf.now) opened.1.0
 
 pub returns-clause-done : goal.returns-clause-done
 returns-clause-done g c =
@@ -30,12 +30,12 @@ returns-clause-done g c =
     let told = g.S.Shelf.files c.args.shelf.now in
     let told' = g.S.Shelf.files c.open_image.new.shelf in
     let same : told' ≡ told = c.in-Ok.ensures.same.files in
-    let inside : c.args.at + c.args.count ≤ opened.0.sectors = (let in_size = c.is_within.ensures.0 c.if-not-is_within.false in let size = size-is image opened.0 opened.3 in let is = c.sectors.ensures in omega (arith, in_size, size, is)) in
+    let inside : c.args.at + c.args.count ≤ opened.0.sectors = (let in_size = c.is_within.ensures.0 c.if-not-is_within.false in let size = size-is image opened.0 opened.1.3 in let is = c.sectors.ensures in omega (arith, in_size, size, is)) in
     λ left left_now source source_now.
     let before : Ports = record { left = left; source_faults = source; written = g.B.Sink.written c.args.out.now; sink_faults = g.B.Sink.faults c.args.out.now; files = told; count = g.S.Shelf.count c.args.shelf.now; shelf_faults = g.S.Shelf.faults c.args.shelf.now } in
     let now : Ports = record { left = left_now; source_faults = source_now; written = g.B.Sink.written c.copy_sectors-result.new.out; sink_faults = g.B.Sink.faults c.copy_sectors-result.new.out; files = g.S.Shelf.files c.copy_sectors-result.new.shelf; count = g.S.Shelf.count c.copy_sectors-result.new.shelf; shelf_faults = g.S.Shelf.faults c.copy_sectors-result.new.shelf } in
-    let opens : Opens (Read c.args.at c.args.count) before disk [] opened.0 = record { takes = refl; over = opened.1; starts = opened.2 } in
-    rw (c.as_command.ensures, c.into_disk-2.ensures) (ok-told c.copy_sectors-result.result _ (read-done c.args.at c.args.count before now disk image new opened.0 (λ t. t) opens inside opened.3 c.copy_sectors-result.result
+    let opens : Opens (Read c.args.at c.args.count) before disk [] opened.0 = record { takes = refl; over = opened.1.0; starts = opened.1.1 } in
+    rw (c.as_command.ensures, c.into_disk-2.ensures) (ok-told c.copy_sectors-result.result _ (read-done c.args.at c.args.count before now disk image new opened.0 (λ t. t) opens inside opened.1.3 c.copy_sectors-result.result
     (λ tells f. g.met.D.Disk.seen_may_stay c.copy_sectors-result.new.image.disk f tells) c.copy_sectors-result.ensures.adds
     (subst (λ (o : Option (List (List ℕ))). OnOk c.copy_sectors-result.result (WritesSectors image o c.args.at c.args.count before.written now.written)) same c.copy_sectors-result.ensures.done)))
 
@@ -48,12 +48,12 @@ returns-clause-refused g c =
     let told = g.S.Shelf.files c.args.shelf.now in
     let told' = g.S.Shelf.files c.open_image.new.shelf in
     let same : told' ≡ told = c.in-Ok.ensures.same.files in
-    let inside : c.args.at + c.args.count ≤ opened.0.sectors = (let in_size = c.is_within.ensures.0 c.if-not-is_within.false in let size = size-is image opened.0 opened.3 in let is = c.sectors.ensures in omega (arith, in_size, size, is)) in
+    let inside : c.args.at + c.args.count ≤ opened.0.sectors = (let in_size = c.is_within.ensures.0 c.if-not-is_within.false in let size = size-is image opened.0 opened.1.3 in let is = c.sectors.ensures in omega (arith, in_size, size, is)) in
     λ left left_now source source_now.
     let before : Ports = record { left = left; source_faults = source; written = g.B.Sink.written c.args.out.now; sink_faults = g.B.Sink.faults c.args.out.now; files = told; count = g.S.Shelf.count c.args.shelf.now; shelf_faults = g.S.Shelf.faults c.args.shelf.now } in
     let now : Ports = record { left = left_now; source_faults = source_now; written = g.B.Sink.written c.copy_sectors-result.new.out; sink_faults = g.B.Sink.faults c.copy_sectors-result.new.out; files = g.S.Shelf.files c.copy_sectors-result.new.shelf; count = g.S.Shelf.count c.copy_sectors-result.new.shelf; shelf_faults = g.S.Shelf.faults c.copy_sectors-result.new.shelf } in
-    let opens : Opens (Read c.args.at c.args.count) before disk [] opened.0 = record { takes = refl; over = opened.1; starts = opened.2 } in
-    rw (c.as_command.ensures, c.into_disk-2.ensures) (err-told c.copy_sectors-result.result (CommandCause (Read c.args.at c.args.count) before now disk (port_of new)) (read-failed c.args.at c.args.count before now disk image new opened.0 (λ t. t) opens inside opened.3 c.copy_sectors-result.result
+    let opens : Opens (Read c.args.at c.args.count) before disk [] opened.0 = record { takes = refl; over = opened.1.0; starts = opened.1.1 } in
+    rw (c.as_command.ensures, c.into_disk-2.ensures) (err-told c.copy_sectors-result.result (CommandCause (Read c.args.at c.args.count) before now disk (port_of new)) (read-failed c.args.at c.args.count before now disk image new opened.0 (λ t. t) opens inside opened.1.3 c.copy_sectors-result.result
     (g.S.Shelf.faults c.open_image.new.shelf) (g.B.Sink.faults c.args.out.now) (let e = c.in-Ok.ensures.cause in omega (arith, e)) (let e = c.in-Ok.ensures.shelf_cause in omega (arith, e)) (omega arith)
     (subst (λ (o : Option (List (List ℕ))). OnErr c.copy_sectors-result.result (WritesFront image o c.args.at c.args.count before.written now.written)) same c.copy_sectors-result.ensures.front)
     c.copy_sectors-result.ensures.refused))
@@ -62,7 +62,7 @@ pub returns-then-not-is_within-clause-refused : goal.returns-then-not-is_within-
 returns-then-not-is_within-clause-refused g c =
     let old : Seen = record { tells = g.D.Disk.tells; state = g.D.Disk.state c.in-Ok.image.disk; faults = g.D.Disk.faults c.in-Ok.image.disk; parts = c.in-Ok.image.parts } in
     let opened = c.in-Ok.ensures.opened in
-    let size = size-is old opened.0 opened.3 in
+    let size = size-is old opened.0 opened.1.3 in
     let is = c.sectors.ensures in
     let past : c.sectors.result < c.args.at + c.args.count = not-within c.is_within.result (c.args.at + c.args.count) c.sectors.result c.if-not-is_within.true c.is_within.ensures.1 in
     λ left left_now source source_now.
@@ -70,9 +70,9 @@ returns-then-not-is_within-clause-refused g c =
       record {
         bytes = [];
         base = opened.0;
-        opens = record { takes = refl; over = opened.1; starts = opened.2 };
+        opens = record { takes = refl; over = opened.1.0; starts = opened.1.1 };
         past = omega (arith, past, size, is);
-        crash = leaves-acts old opened.0 opened.3 old [] (adds-nothing old);
+        crash = leaves-acts old opened.0 opened.1.3 old [] (adds-nothing old);
       },
       record { sink = Keeps-refl (g.B.Sink.written c.args.out.now); same = c.in-Ok.ensures.quiet },
     )

@@ -20,8 +20,8 @@ returns-clause-done g c =
     λ left left_now source source_now.
     let before : Ports = record { left = left; source_faults = source; written = g.B.Sink.written c.args.out.now; sink_faults = g.B.Sink.faults c.args.out.now; files = g.S.Shelf.files c.args.shelf.now; count = g.S.Shelf.count c.args.shelf.now; shelf_faults = g.S.Shelf.faults c.args.shelf.now } in
     let now : Ports = record { left = left_now; source_faults = source_now; written = g.B.Sink.written c.sweep_told-result.new.out; sink_faults = g.B.Sink.faults c.sweep_told-result.new.out; files = g.S.Shelf.files c.open_image.new.shelf; count = g.S.Shelf.count c.open_image.new.shelf; shelf_faults = g.S.Shelf.faults c.open_image.new.shelf } in
-    let opens : Opens Sweep before disk [] opened.0 = record { takes = refl; over = opened.1; starts = opened.2 } in
-    rw (c.as_command.ensures, c.into_disk.ensures) (ok-told c.sweep_told-result.result _ (sweep-done before now disk old new opened.0 opens opened.3 c.sweep_told-result.result
+    let opens : Opens Sweep before disk [] opened.0 = record { takes = refl; over = opened.1.0; starts = opened.1.1 } in
+    rw (c.as_command.ensures, c.into_disk.ensures) (ok-told c.sweep_told-result.result _ (sweep-done before now disk old new opened.0 opens opened.1.3 c.sweep_told-result.result
     (λ tells f. g.met.D.Disk.seen_may_stay c.sweep_told-result.new.image.disk f tells) c.sweep_told-result.ensures.adds c.sweep_told-result.ensures.emptied c.sweep_told-result.ensures.told))
 
 pub returns-clause-refused : goal.returns-clause-refused
@@ -33,8 +33,8 @@ returns-clause-refused g c =
     λ left left_now source source_now.
     let before : Ports = record { left = left; source_faults = source; written = g.B.Sink.written c.args.out.now; sink_faults = g.B.Sink.faults c.args.out.now; files = g.S.Shelf.files c.args.shelf.now; count = g.S.Shelf.count c.args.shelf.now; shelf_faults = g.S.Shelf.faults c.args.shelf.now } in
     let now : Ports = record { left = left_now; source_faults = source_now; written = g.B.Sink.written c.sweep_told-result.new.out; sink_faults = g.B.Sink.faults c.sweep_told-result.new.out; files = g.S.Shelf.files c.open_image.new.shelf; count = g.S.Shelf.count c.open_image.new.shelf; shelf_faults = g.S.Shelf.faults c.open_image.new.shelf } in
-    let opens : Opens Sweep before disk [] opened.0 = record { takes = refl; over = opened.1; starts = opened.2 } in
-    rw (c.as_command.ensures, c.into_disk.ensures) (err-told c.sweep_told-result.result (CommandCause Sweep before now disk (port_of new)) (sweep-failed before now disk old new opened.0 opens opened.3 c.sweep_told-result.result
+    let opens : Opens Sweep before disk [] opened.0 = record { takes = refl; over = opened.1.0; starts = opened.1.1 } in
+    rw (c.as_command.ensures, c.into_disk.ensures) (err-told c.sweep_told-result.result (CommandCause Sweep before now disk (port_of new)) (sweep-failed before now disk old new opened.0 opens opened.1.3 c.sweep_told-result.result
     before.sink_faults (let e = c.in-Ok.ensures.cause in omega (arith, e)) (omega arith) c.sweep_told-result.ensures.refused))
 
 pub returns-in-Err-clause-refused : goal.returns-in-Err-clause-refused

@@ -26,16 +26,16 @@ returns-clause-done g c =
     let opened = c.in-Ok.ensures.opened in
     let place : c.extent_of.result.at ≡ c.args.at = c.extent_of.ensures.place in
     let many : c.extent_of.result.count ≡ c.args.count = c.extent_of.ensures.count in
-    let inside : c.args.at + c.args.count ≤ opened.0.sectors = (let in_size = c.is_within.ensures.0 c.if-not-is_within.false in let size = size-is old opened.0 opened.3 in let is = c.sectors.ensures in omega (arith, in_size, size, is)) in
+    let inside : c.args.at + c.args.count ≤ opened.0.sectors = (let in_size = c.is_within.ensures.0 c.if-not-is_within.false in let size = size-is old opened.0 opened.1.3 in let is = c.sectors.ensures in omega (arith, in_size, size, is)) in
     λ left left_now source source_now.
     let before : Ports = record { left = left; source_faults = source; written = g.B.Sink.written c.args.out.now; sink_faults = g.B.Sink.faults c.args.out.now; files = g.S.Shelf.files c.args.shelf.now; count = g.S.Shelf.count c.args.shelf.now; shelf_faults = g.S.Shelf.faults c.args.shelf.now } in
     let now : Ports = record { left = left_now; source_faults = source_now; written = g.B.Sink.written c.zero_told-result.new.out; sink_faults = g.B.Sink.faults c.zero_told-result.new.out; files = g.S.Shelf.files c.open_image.new.shelf; count = g.S.Shelf.count c.open_image.new.shelf; shelf_faults = g.S.Shelf.faults c.open_image.new.shelf } in
-    let opens : Opens (Zero c.args.at c.args.count) before disk ([]) opened.0 = record { takes = refl; over = opened.1; starts = opened.2 } in
+    let opens : Opens (Zero c.args.at c.args.count) before disk ([]) opened.0 = record { takes = refl; over = opened.1.0; starts = opened.1.1 } in
     let adds = subst (λ (n : ℕ). OnOk c.zero_told-result.result (Adds (entries (kept_change (act.Zero c.args.at n))) old new)) many
     (subst (λ (a : ℕ). OnOk c.zero_told-result.result (Adds (entries (kept_change (act.Zero a c.extent_of.result.count))) old new)) place c.zero_told-result.ensures.adds) in
     let told = subst (λ (n : ℕ). OnOk c.zero_told-result.result (Appends before.written now.written (zeroed_line c.args.at n))) many
     (subst (λ (a : ℕ). OnOk c.zero_told-result.result (Appends before.written now.written (zeroed_line a c.extent_of.result.count))) place c.zero_told-result.ensures.told) in
-    rw (c.as_command.ensures, c.into_disk-2.ensures) (ok-told c.zero_told-result.result _ (change-done (Zero c.args.at c.args.count) ([]) (zeroed_line c.args.at c.args.count) (act.Zero c.args.at c.args.count) before now disk old new opened.0 refl tt refl refl tt opens inside opened.3 refl tt c.zero_told-result.result
+    rw (c.as_command.ensures, c.into_disk-2.ensures) (ok-told c.zero_told-result.result _ (change-done (Zero c.args.at c.args.count) ([]) (zeroed_line c.args.at c.args.count) (act.Zero c.args.at c.args.count) before now disk old new opened.0 refl tt refl refl tt opens inside opened.1.3 refl tt c.zero_told-result.result
     (λ tells f. g.met.D.Disk.seen_may_stay c.zero_told-result.new.image.disk f tells) adds told))
 
 pub returns-clause-refused : goal.returns-clause-refused
@@ -46,21 +46,21 @@ returns-clause-refused g c =
     let opened = c.in-Ok.ensures.opened in
     let place : c.extent_of.result.at ≡ c.args.at = c.extent_of.ensures.place in
     let many : c.extent_of.result.count ≡ c.args.count = c.extent_of.ensures.count in
-    let inside : c.args.at + c.args.count ≤ opened.0.sectors = (let in_size = c.is_within.ensures.0 c.if-not-is_within.false in let size = size-is old opened.0 opened.3 in let is = c.sectors.ensures in omega (arith, in_size, size, is)) in
+    let inside : c.args.at + c.args.count ≤ opened.0.sectors = (let in_size = c.is_within.ensures.0 c.if-not-is_within.false in let size = size-is old opened.0 opened.1.3 in let is = c.sectors.ensures in omega (arith, in_size, size, is)) in
     λ left left_now source source_now.
     let before : Ports = record { left = left; source_faults = source; written = g.B.Sink.written c.args.out.now; sink_faults = g.B.Sink.faults c.args.out.now; files = g.S.Shelf.files c.args.shelf.now; count = g.S.Shelf.count c.args.shelf.now; shelf_faults = g.S.Shelf.faults c.args.shelf.now } in
     let now : Ports = record { left = left_now; source_faults = source_now; written = g.B.Sink.written c.zero_told-result.new.out; sink_faults = g.B.Sink.faults c.zero_told-result.new.out; files = g.S.Shelf.files c.open_image.new.shelf; count = g.S.Shelf.count c.open_image.new.shelf; shelf_faults = g.S.Shelf.faults c.open_image.new.shelf } in
-    let opens : Opens (Zero c.args.at c.args.count) before disk ([]) opened.0 = record { takes = refl; over = opened.1; starts = opened.2 } in
+    let opens : Opens (Zero c.args.at c.args.count) before disk ([]) opened.0 = record { takes = refl; over = opened.1.0; starts = opened.1.1 } in
     let cause = subst (λ (n : ℕ). IfErr c.zero_told-result.result (TellCause (act.Zero c.args.at n) (zeroed_line c.args.at n) old new before.sink_faults now.sink_faults before.written now.written)) many
     (subst (λ (a : ℕ). IfErr c.zero_told-result.result (TellCause (act.Zero a c.extent_of.result.count) (zeroed_line a c.extent_of.result.count) old new before.sink_faults now.sink_faults before.written now.written)) place c.zero_told-result.ensures.refused) in
-    rw (c.as_command.ensures, c.into_disk-2.ensures) (err-told c.zero_told-result.result (CommandCause (Zero c.args.at c.args.count) before now disk (port_of new)) (change-failed (Zero c.args.at c.args.count) ([]) (zeroed_line c.args.at c.args.count) (act.Zero c.args.at c.args.count) before now disk old new opened.0 refl tt refl refl tt opens inside opened.3 refl tt c.zero_told-result.result
+    rw (c.as_command.ensures, c.into_disk-2.ensures) (err-told c.zero_told-result.result (CommandCause (Zero c.args.at c.args.count) before now disk (port_of new)) (change-failed (Zero c.args.at c.args.count) ([]) (zeroed_line c.args.at c.args.count) (act.Zero c.args.at c.args.count) before now disk old new opened.0 refl tt refl refl tt opens inside opened.1.3 refl tt c.zero_told-result.result
     before.sink_faults (let e = c.in-Ok.ensures.cause in omega (arith, e)) (omega arith) cause))
 
 pub returns-then-not-is_within-clause-refused : goal.returns-then-not-is_within-clause-refused
 returns-then-not-is_within-clause-refused g c =
     let old : Seen = record { tells = g.D.Disk.tells; state = g.D.Disk.state c.in-Ok.image.disk; faults = g.D.Disk.faults c.in-Ok.image.disk; parts = c.in-Ok.image.parts } in
     let opened = c.in-Ok.ensures.opened in
-    let size = size-is old opened.0 opened.3 in
+    let size = size-is old opened.0 opened.1.3 in
     let is = c.sectors.ensures in
     let past : c.sectors.result < c.args.at + c.args.count = not-within c.is_within.result (c.args.at + c.args.count) c.sectors.result c.if-not-is_within.true c.is_within.ensures.1 in
     λ left left_now source source_now.
@@ -68,9 +68,9 @@ returns-then-not-is_within-clause-refused g c =
       record {
         bytes = [];
         base = opened.0;
-        opens = record { takes = refl; over = opened.1; starts = opened.2 };
+        opens = record { takes = refl; over = opened.1.0; starts = opened.1.1 };
         past = omega (arith, past, size, is);
-        crash = leaves-acts old opened.0 opened.3 old [] (adds-nothing old);
+        crash = leaves-acts old opened.0 opened.1.3 old [] (adds-nothing old);
       },
       record { sink = Keeps-refl (g.B.Sink.written c.args.out.now); same = c.in-Ok.ensures.quiet },
     )

@@ -14,7 +14,7 @@ returns-in-Ok-load-clause-opened g c =
     let lowers : List LayerIndex = c.from_vec-lowers.result in
     let same : lowers ≡ layers = c.from_vec-lowers.ensures in
     opened told (g.S.Shelf.count c.args.shelf.now) layers g.D.Disk.tells (g.D.Disk.state c.args.disk) (g.D.Disk.state c.in-Ok-load.image.disk) (g.D.Disk.faults c.args.disk)
-    (g.D.Disk.faults c.in-Ok-load.image.disk) c.in-Ok-load.image.parts (stacked told (g.S.Shelf.count c.args.shelf.now) layers c.in-Ok.ensures.count c.in-Ok.ensures.few c.in-Ok.ensures.told c.in-Ok.ensures.legal) c.in-Ok.ensures.count (c.in-Ok-load.ensures.frame.0 ∙ same)
+    (g.D.Disk.faults c.in-Ok-load.image.disk) c.in-Ok-load.image.parts c.in-Ok-load.ensures.cause (stacked told (g.S.Shelf.count c.args.shelf.now) layers c.in-Ok.ensures.count c.in-Ok.ensures.few c.in-Ok.ensures.told c.in-Ok.ensures.legal) c.in-Ok.ensures.count (c.in-Ok-load.ensures.frame.0 ∙ same)
     (c.in-Ok-load.ensures.starts told (subst (λ (l : List LayerIndex). IfSome told (λ files. AreLayersOf files l)) (sym same) (told-layers-of told layers c.in-Ok.ensures.told)))
 
 pub returns-in-Err-load-clause-refused : goal.returns-in-Err-load-clause-refused

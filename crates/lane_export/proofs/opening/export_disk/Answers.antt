@@ -10,7 +10,7 @@ pub base_of-base-requires : goal.base_of-base-requires
 base_of-base-requires g c =
     opened-now (g.S.Shelf.files c.args.control.shelf) (g.S.Shelf.files c.open_image.new.shelf) (g.S.Shelf.count c.args.control.shelf) (g.S.Shelf.count c.open_image.new.shelf) g.D.Disk.tells
     (g.D.Disk.state c.args.disk) (g.D.Disk.state c.in-Ok.image.disk) (g.D.Disk.faults c.args.disk) (g.D.Disk.faults c.in-Ok.image.disk) (seen g.D.Disk c.in-Ok.image)
-    c.in-Ok.ensures.same.files c.in-Ok.ensures.same.count c.in-Ok.ensures.quiet c.in-Ok.ensures.opened
+    c.in-Ok.ensures.same.files c.in-Ok.ensures.same.count c.in-Ok.ensures.cause c.in-Ok.ensures.quiet c.in-Ok.ensures.opened
 
 pub export_cached-image-requires-clause-stands : goal.export_cached-image-requires-clause-stands
 export_cached-image-requires-clause-stands g c κs within = c.base_of-base.ensures.3
