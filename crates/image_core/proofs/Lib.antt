@@ -1,3 +1,4 @@
+pub mod Formats
 pub mod Freezes
 pub mod FrozenTops
 pub mod Grows

@@ -4,6 +4,7 @@ use Rattle.std.specs.Prelude.{Option, Some, None}
 use Rattle.std.specs.Vec.{vec_len, vec_capacity}
 use Rattle.std.specs.Arc.{arc_value}
 use Rattle.seg_table.specs.Cells.{cells_of}
+use Rattle.gate_mark.specs.Mark.{file_of}
 use Rattle.flat_image.specs.declared.base.Base.{Base}
 use Rattle.flat_image.specs.declared.act.Asked.{Asked}
 use Rattle.flat_image.specs.Base.{pending_of, IsBase}
@@ -17,7 +18,7 @@ use Rattle.layer_commit.specs.Sources.{table_sheet}
 use Rattle.layer_commit.specs.View.{pieces_of}
 use Rattle.top_writer.specs.View.{view_of, table_of, sectors_of}
 use Rattle.image_core.specs.declared.parts.Commit.{Commit}
-use Rattle.image_core.specs.Numbers.{with_pending}
+use Rattle.image_core.specs.Numbers.{manifest_file, with_pending}
 use Rattle.image_core.specs.Parts.{PartsFit}
 use Rattle.image_core.specs.Pieces.{IsSnapshotOf}
 use Rattle.image_core.specs.Shows as shows
@@ -71,6 +72,10 @@ image-room x c held (base, history, k) = (k.fits.stack.becomes c held).room
 
 pub image-snapshot : (x : Seen) → IsImage x → IsSnapshotOf (arc_value x.parts.stack.snapshot) x.parts.stack.lowers x.parts.stack.committed.items
 image-snapshot x (base, history, k) = k.fits.stack.snapshot
+
+-- its manifest is the file of that number,
+pub image-manifest : (x : Seen) → IsImage x → file_of x.parts.manifest ≡ manifest_file
+image-manifest x (base, history, k) = k.fits.manifest_is
 
 -- and what it is made of is a base that its parts fit
 pub image-fits : (x : Seen) → IsImage x → (b : Base) × (tops : List Stand) × (attempts : List Asked) × IsBase b × PartsFit x.tells x.state x.parts b tops attempts

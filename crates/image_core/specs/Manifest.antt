@@ -1,9 +1,11 @@
 -- The body of the manifest's mark: how many layers are committed, the epoch of the top, the uuid of the commit in
 -- progress, the sectors of the image, and the format.
-use Rattle.std.specs.Prelude.{◌≡◌, ◌≢◌, ◌⊎◌, ℕ, Bool, nat_eq, List, take, drop, Option, Some, None, IfSome}
+use Rattle.std.specs.Prelude.{◌≡◌, ◌≢◌, ◌⊎◌, ℕ, Bool, IsTrue, nat_eq, List, take, drop, Option, Some, None, IfSome}
 use Rattle.std.specs.Int.{w64, from_le_bytes}
+use Rattle.block_disk.specs.DiskState.{DiskState}
+use Rattle.gate_mark.specs.MarkFile.{Shows}
 use Rattle.lsmt_header.specs.Blocks.{nil}
-use Rattle.image_core.specs.Numbers.{with_pending}
+use Rattle.image_core.specs.Numbers.{manifest_file, with_pending}
 
 unfoldable pub count_said : List ℕ → ℕ
 count_said body = from_le_bytes w64 (take 8 body)
@@ -47,3 +49,15 @@ pub record Names (body : List ℕ) (done : ℕ) (pending : Option (List ℕ)) (n
 pub record IsWritten (body : List ℕ) (done : ℕ) (pending : Option (List ℕ)) (n : ℕ) : Type 0 where
   pub names : Names body done pending n
   pub format : format_said body ≡ 2
+
+-- the body that counts in a manifest has format 2
+pub record HasFormat2 (manifest : List ℕ) : Type 0 where
+  pub sequence : ℕ
+  pub body : List ℕ
+  pub shows : Shows sequence body manifest
+  pub format : format_said body ≡ 2
+
+-- whatever a crash leaves of the manifest has format 2, and so it reads where the disk tells
+pub record IsInFormat2 (tells : Bool) (disk : DiskState) : Type 0 where
+  pub left : (manifest : List ℕ) → disk.may_leave manifest_file manifest → HasFormat2 manifest
+  pub reads : IsTrue tells → HasFormat2 (disk.seen manifest_file)

@@ -11,6 +11,7 @@ ghost use Rattle.image_core.specs.declared.commit.CopyFault.TheVariants as copie
 ghost use Rattle.image_core.specs.declared.commit.SealFault.TheVariants as seals;
 ghost use Rattle.image_core.specs.Committing.{noted_freeze, noted_copy, noted_seal, noted_peek, uuids_in, IsRefusedFreeze, IsRefusedCopy, IsRefusedSeal, IsCopied, done_of, total_of, peeked};
 ghost use Rattle.image_core.specs.Growing.{pending_in};
+ghost use Rattle.image_core.specs.Manifest.{IsInFormat2};
 ghost use Rattle.image_core.specs.Seen.{seen, view, faults_in, disk_of, IsImage, StandsFor, Goes, Rests};
 
 use crate::commit::{CopyFault, CopyState, FreezeFault, SealFault};
@@ -38,6 +39,8 @@ impl<D: Disk> Image<D> {
         ensures same { OnErr result (¬ IsErrOf result freezes.Failed → view self.new ≡ view self.old) }
         // a refusal that is not the disk's comes before the disk is called
         ensures spared { OnErr result (¬ IsErrOf result freezes.Failed → disk_of self.new ≡ disk_of self.old) }
+        // what was written of the manifest has format 2
+        ensures format { OnOk result (IsInFormat2 D.tells (seen D.Disk self.new).state) }
         ensures cause { Charges (faults_in D.Disk) self.old self.new (IsErrOf result freezes.Failed) }
     {
         self.parts.stack.check_freeze(&uuid)?;
@@ -122,6 +125,8 @@ impl<D: Disk> Image<D> {
         ensures epoch { IfOk result (λ epoch. epoch ≡ length (view self.old).committed) }
         // a refusal that is not the disk's leaves all as it was
         ensures same { OnErr result (¬ IsErrOf result seals.Failed → self.new ≡ self.old) }
+        // what was written of the manifest has format 2
+        ensures format { OnOk result (IsInFormat2 D.tells (seen D.Disk self.new).state) }
         ensures cause { Charges (faults_in D.Disk) self.old self.new (IsErrOf result seals.Failed) }
     {
         self.parts.stack.check_seal(&uuid)?;

@@ -18,6 +18,7 @@ ghost use Rattle.image_core.specs.declared.loading.LoadFault.TheVariants as why;
 ghost use Rattle.image_core.specs.Growing.{noted_grow, pending_in, IsRefusedGrow};
 ghost use Rattle.image_core.specs.Loading.{IsLoadReason, upper_uuid};
 ghost use Rattle.block_disk.specs.Claims.{Quiet};
+ghost use Rattle.image_core.specs.Manifest.{IsInFormat2};
 ghost use Rattle.image_core.specs.Numbers.{manifest_file};
 ghost use Rattle.image_core.specs.Shows.{Shows, IsUnworn};
 ghost use Rattle.image_core.specs.View.{AreLayersOf};
@@ -45,6 +46,7 @@ use flat_image::{Act, Base, Stands};
 use sealed_layer::layers_law;
 use sector_extent::{Extent, GapList};
 use std::alloc::Global;
+use std::mem::replace;
 use std::sync::Arc;
 use top_writer::{ReadFault, WriteFault};
 
@@ -242,6 +244,8 @@ impl<D: Disk> Image<D> {
         ensures refused { IsRefusedGrow (pending_in (view self.old)) (view self.old).sectors sectors result }
         // a refusal that is not the disk's leaves all as it was
         ensures same { OnErr result (¬ IsErrOf result grows.Failed → self.new ≡ self.old) }
+        // what was written of the manifest has format 2
+        ensures format { OnOk result (IsInFormat2 D.tells (seen D.Disk self.new).state) }
         ensures cause { Charges (faults_in D.Disk) self.old self.new (IsErrOf result grows.Failed) }
     {
         if let Some(uuid) = self.parts.stack.pending() {
@@ -276,8 +280,8 @@ impl<D: Disk> Image<D> {
     }
 
     /// The part of a read that the top has: its sectors in `out`, and the others as `gaps`, in order,
-    /// with the layers in which these are to be searched. What `gaps` held before is dropped. After a
-    /// refusal `out` and `gaps` may hold anything.
+    /// with the layers in which these are to be searched. What `gaps` held before is dropped, and its
+    /// memory serves again. After a refusal `out` and `gaps` may hold anything.
     pub fn plan(
         &mut self,
         alloc: Global,
@@ -309,7 +313,9 @@ impl<D: Disk> Image<D> {
         let Ok(snapshot) = Arc::try_clone(&self.parts.stack.snapshot) else {
             return Err(ReadFault::Memory);
         };
-        *gaps = GapList::from_vec(Vec::new(alloc));
+        let mut kept = replace(gaps, GapList::from_vec(Vec::new(alloc))).into_vec();
+        kept.clear();
+        *gaps = GapList::from_vec(kept);
         let parts = &self.parts;
         match parts.read_upper(alloc, &mut self.disk, extent, out, gaps) {
             Ok(()) => {

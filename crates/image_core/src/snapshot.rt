@@ -1,8 +1,8 @@
-ghost use Rattle.std.specs.Prelude.{◌≡◌, ◌+◌, ◌<◌, ◌≤◌, List, [], ◌∷◌, ◌++◌, All, IfOk, take, drop, length};
+ghost use Rattle.std.specs.Prelude.{◌≡◌, ◌+◌, ◌-◌, ◌<◌, ◌≤◌, List, [], ◌∷◌, ◌++◌, All, IfOk, take, drop, length};
 ghost use Rattle.sealed_layer.specs.Layers.{LayerIndex};
 ghost use Rattle.image_core.specs.Pieces.{IsSnapshotOf};
 ghost use Rattle.merged_index.specs.Cells.{cells_of};
-ghost use Rattle.merged_index.specs.Pieces.{AreCells, IsUnparted};
+ghost use Rattle.merged_index.specs.Pieces.{AreCells, IsUnparted, AreFewLooks};
 
 use merged_index::{MergedIndex, Piece};
 use sealed_layer::Layer;
@@ -59,6 +59,7 @@ impl Snapshot {
         ensures unparted { All (IsUnparted self.now.index (extent.at + extent.count)) (take result.pieces out.new) }
         ensures rest { drop result.pieces out.new ≡ drop result.pieces out.old }
         ensures counted { steps.old ≤ steps.new }
+        ensures bound { AreFewLooks self.now.index (steps.new - steps.old) result.pieces }
     {
         self.index.find(extent, out, steps)
     }

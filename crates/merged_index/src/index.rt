@@ -1,8 +1,8 @@
-ghost use Rattle.std.specs.Prelude.{◌≡◌, ℕ, ◌+◌, ◌-◌, ◌*◌, ◌^◌, ◌<◌, ◌≤◌, ◌⊎◌, List, [], ◌∷◌, ◌++◌, All, IfOk, take, drop, length};
+ghost use Rattle.std.specs.Prelude.{◌≡◌, ℕ, ◌+◌, ◌-◌, ◌<◌, ◌≤◌, ◌⊎◌, List, [], ◌∷◌, ◌++◌, All, IfOk, take, drop, length};
 ghost use Rattle.sealed_layer.specs.Layers.{LayerIndex};
 ghost use Rattle.merged_index.specs.declared.piece.PieceWhat.TheVariants.{Hole};
 ghost use Rattle.merged_index.specs.Cells.{what_of, painted_what, cells_of, IsRowEdge, IsEdge, IsIndexOf};
-ghost use Rattle.merged_index.specs.Pieces.{AreCells, IsUnparted};
+ghost use Rattle.merged_index.specs.Pieces.{AreCells, IsUnparted, AreFewLooks};
 
 use crate::piece::Piece;
 use crate::search::find_in;
@@ -66,8 +66,7 @@ impl MergedIndex {
         ensures unparted { All (IsUnparted self.now (extent.at + extent.count)) (take result.pieces out.new) }
         ensures rest { drop result.pieces out.new ≡ drop result.pieces out.old }
         ensures counted { steps.old ≤ steps.new }
-        // p looks and one more a piece, where 2^p is at most 2n + 1
-        ensures bound { 2 ^ (steps.new - steps.old - result.pieces) ≤ 2 * length self.now.segments + 1 }
+        ensures bound { AreFewLooks self.now (steps.new - steps.old) result.pieces }
     {
         find_in(&self.segments, extent.at, extent.end(), out, steps)
     }

@@ -18,15 +18,16 @@ use Rattle.image_core.specs.Committing.{uuids_in}
 use Rattle.image_core.specs.Growing.{pending_in}
 use Rattle.image_core.specs.Loading.{upper_uuid, upper_size}
 use Rattle.image_core.specs.Manifest.{IsWritten}
-use Rattle.image_core.specs.Numbers.{sealed_file}
+use Rattle.image_core.specs.Numbers.{manifest_file, sealed_file}
 use Rattle.image_core.specs.Parts.{layer_in}
 use Rattle.image_core.specs.Pieces.{IsSnapshotOf}
 use Rattle.image_core.specs.Seen.{seen, view, with_disk, Goes}
 use Rattle.image_core.proofs.CommitRefusals.{uuid-of, pending-same, freeze-unnoted, freeze-ok, freeze-memory, freeze-failing}
 use Rattle.image_core.proofs.FaultCounts.{value_no_fault}
 use Rattle.image_core.proofs.Freezes.{stands-reserved, goes-reserved, kept-after, freeze-untaken, freeze-failed, freeze-done}
+use Rattle.image_core.proofs.Formats.{set-format}
 use Rattle.image_core.proofs.Grows.{none-pending}
-use Rattle.image_core.proofs.StandFacts.{image-few, image-places, image-rows, image-snapshot}
+use Rattle.image_core.proofs.StandFacts.{image-few, image-places, image-rows, image-snapshot, image-manifest}
 use Rattle.image_core.proofs.StepGoes.{goes-not, goes-unnoted, goes-noted, counts-fault, keeps-unflushed}
 use Rattle.image_core.proofs.image.Image.freeze.Goals as goal
 
@@ -169,3 +170,8 @@ returns-in-Ok-set-clause-cause g c =
     calm_ok count c.take_next.new.disk c.set.new.disk c.in-Ok-set.ensures.cause
     ∙ (calm_ok count c.flush.new.disk c.take_next.new.disk c.in-Ok-take_next.ensures.cause ∙ calm_ok count c.args.self.now.disk c.flush.new.disk c.in-Ok-flush.ensures.cause) in
     record { later = omega (arith, same); failed = λ is. absurd (value_no_fault _ freezes.Failed is); only = λ rose. absurd (omega (arith, same, rose)) }
+
+pub returns-in-Ok-set-clause-format : goal.returns-in-Ok-set-clause-format
+returns-in-Ok-set-clause-format g c =
+    set-format g.D.Disk.tells (g.D.Disk.state c.set.new.disk) c.args.self.now.parts.manifest c.set.new.self c.pending_body-body.result (image-manifest (seen g.D.Disk c.args.self.now) c.requires.standing)
+    c.in-Ok-set.ensures.ok c.pending_body-body.ensures.format c.set.ensures.now (g.met.D.Disk.seen_may_stay c.set.new.disk manifest_file)

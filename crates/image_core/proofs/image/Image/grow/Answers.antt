@@ -2,6 +2,7 @@ use Rattle.std.proofs.Common.{◌≡◌, ℕ, ◌+◌, ◌∙◌, refl, sym, sub
 use Rattle.std.specs.Prelude.{None}
 use Rattle.image_core.specs.Growing.{pending_in}
 use Rattle.image_core.specs.Manifest.{IsWritten}
+use Rattle.image_core.specs.Numbers.{manifest_file}
 use Rattle.image_core.proofs.CommitRefusals.{pending-same, grow-ok, grow-failing}
 use Rattle.sector_extent.specs.CauseLaws.{calm_ok}
 use Rattle.flat_image.specs.declared.act.Act.TheVariants.{Fault}
@@ -11,8 +12,9 @@ use Rattle.top_writer.specs.Stands.{unchanged, just_this, this_too}
 use Rattle.image_core.specs.declared.growing.GrowFault.TheVariants as grows
 use Rattle.image_core.specs.Seen.{Seen, seen, view, with_disk}
 use Rattle.image_core.proofs.FaultCounts.{value_no_fault}
+use Rattle.image_core.proofs.Formats.{set-format}
 use Rattle.image_core.proofs.Grows.{none-pending, grow-failed, grow-done}
-use Rattle.image_core.proofs.StandFacts.{image-few}
+use Rattle.image_core.proofs.StandFacts.{image-few, image-manifest}
 use Rattle.image_core.proofs.StepGoes.{IsSameBesides, fits-after, goes-not, goes-noted, counts-fault, keeps-unflushed}
 use Rattle.image_core.proofs.image.Image.grow.Goals as goal
 
@@ -72,3 +74,8 @@ returns-in-Ok-set-clause-refused g c = grow-ok (pending_in (view c.args.self.now
 
 pub returns-in-Err-set-clause-refused : goal.returns-in-Err-set-clause-refused
 returns-in-Err-set-clause-refused g c = grow-failing (pending_in (view c.args.self.now)) (view c.args.self.now).sectors c.args.sectors (pending-same c.args.self.now.parts.stack.commit ∙ (sym c.pending.ensures ∙ c.in_default.is)) (omega (arith, c.sectors-own.ensures, c.if-sectors-own.false))
+
+pub returns-in-Ok-set-clause-format : goal.returns-in-Ok-set-clause-format
+returns-in-Ok-set-clause-format g c =
+    set-format g.D.Disk.tells (g.D.Disk.state c.set.new.disk) c.args.self.now.parts.manifest c.set.new.self c.plain_body-body.result (image-manifest (seen g.D.Disk c.args.self.now) c.requires.standing)
+    c.in-Ok-set.ensures.ok c.plain_body-body.ensures.format c.set.ensures.now (g.met.D.Disk.seen_may_stay c.set.new.disk manifest_file)

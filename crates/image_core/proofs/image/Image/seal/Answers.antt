@@ -11,13 +11,15 @@ use Rattle.top_writer.specs.Stands.{unchanged, as_before}
 use Rattle.image_core.specs.declared.parts.Stack.{Stack}
 use Rattle.image_core.specs.declared.commit.SealFault.TheVariants as seals
 use Rattle.image_core.specs.Manifest.{IsWritten}
+use Rattle.image_core.specs.Numbers.{manifest_file}
 use Rattle.image_core.specs.Parts.{layer_in}
 use Rattle.image_core.specs.Seen.{seen, with_disk, Goes}
 use Rattle.image_core.proofs.CommitRefusals.{seal-unnoted, uuid-asked, pieces-written}
 use Rattle.image_core.proofs.Copies.{put-back}
 use Rattle.image_core.proofs.FaultCounts.{stays, value_no_fault}
+use Rattle.image_core.proofs.Formats.{set-format}
 use Rattle.image_core.proofs.Seals.{seal-failed, seal-done}
-use Rattle.image_core.proofs.StandFacts.{image-few, image-done, image-room}
+use Rattle.image_core.proofs.StandFacts.{image-few, image-done, image-room, image-manifest}
 use Rattle.image_core.proofs.StepGoes.{goes-unnoted, goes-noted, quiet-goes, counts-fault, keeps-before}
 use Rattle.image_core.proofs.image.Image.seal.Goals as goal
 
@@ -78,3 +80,8 @@ returns-in-Err-set-clause-goes g c =
     (subst (λ (k : ℕ). IsWritten c.plain_body-body.result (k + 1) None c.sectors.result) c.count-count.ensures c.plain_body-body.ensures)
     c.set.new.disk c.set.new.self c.set.ensures.kept c.set.ensures.any_moment
     c.in-Err-set.ensures.err.0 c.in-Err-set.ensures.err_bodies (omega (arith, c.complete.ensures.cause.later, c.in-Err-set.ensures.cause.failed refl)))
+
+pub returns-in-Ok-set-clause-format : goal.returns-in-Ok-set-clause-format
+returns-in-Ok-set-clause-format g c =
+    set-format g.D.Disk.tells (g.D.Disk.state c.set.new.disk) c.args.self.now.parts.manifest c.set.new.self c.plain_body-body.result (image-manifest (seen g.D.Disk c.args.self.now) c.requires.standing)
+    c.in-Ok-set.ensures.ok c.plain_body-body.ensures.format c.set.ensures.now (g.met.D.Disk.seen_may_stay c.set.new.disk manifest_file)
