@@ -85,6 +85,7 @@ impl Cache {
         ensures ok { OnOk result (self.new ≡ put_in self.old key block) }
         ensures err { OnErr result (self.new ≡ self.old) }
     {
+        // The length is asked for, since contracts then know that no key stands twice.
         let _ = self.blocks.len();
         Ok(self.blocks.push(key, block)?)
     }

@@ -13,7 +13,7 @@ pub struct Committed {
     pub size: u64,
 }
 
-/// The line of `create` on an image of so many sectors over so many layers.
+/// The line of `create`: the image's sectors, and the layers below it.
 pub fn created_report(alloc: Global, sectors: u64, layers: u64) -> Result<String, AllocError>
     ensures { IfOk result (λ text. string_bytes text ≡ created_line sectors layers) }
 {

@@ -26,7 +26,7 @@ use layer_shelf::Shelf;
 use sector_extent::SECTOR;
 use std::alloc::Global;
 
-/// The sectors lie in an image of so many.
+/// Whether `at..at + count` lies within an image of `sectors` sectors.
 fn is_within(sectors: u64, at: u64, count: u64) -> bool
     ensures { IsTrue result ↔ (at + count ≤ sectors) }
 {

@@ -20,7 +20,7 @@ fn touch<S: Shelf>(shelf: &mut S, layer: u32, block: u64) -> Result<(), ShelfFai
     shelf.read(layer, BLOCK * block, &mut byte)
 }
 
-// Reads the first bytes of so many blocks of a layer's file.
+// Reads the first byte of each of the first `blocks` blocks of a layer's file.
 fn touch_all<S: Shelf>(shelf: &mut S, layer: u32, blocks: u64) -> Result<(), ShelfFailed>
     requires file { layer < S.count shelf.old }
     requires range { 65536 * blocks ≤ 2 ^ 50 + 65535 }

@@ -8,9 +8,10 @@ ghost use Rattle.image_read.specs.Headline.{Headline};
 
 use nbd_session::session_laws;
 
-/// What `serve_connection` over a `Reader` comes to: however connections interleave, the bytes that one
-/// is sent are the NBD replies to the bytes it sent, each successful read giving the flat image at its
-/// place in one history that begins with all the connection had seen and has each of its calls once.
+/// What `serve_connection` over a `Reader` comes to: however connections, control commands, fetches and
+/// commit steps interleave, the bytes that a connection is sent are the NBD replies to the bytes it
+/// sent, each successful read giving the flat image at its place in one history that begins with all
+/// the connection had seen and has each of its calls once.
 pub fn headline_law()
     ensures { (export : Export) (old new : Ends) (end : Served) (history : History)
         → Serves false (talk export old.port.base.sectors) old new end → Headline export old new end history }

@@ -96,7 +96,7 @@ fn read_planned<'a, D: Disk, S: Shelf, R: Wait>(
     snapshot.fill(layers, gaps.as_slice(), extent.at, out)
 }
 
-// So many sectors from that one on, within an image of so many.
+// The extent of `count` sectors from `at` on, within an image of `sectors` sectors.
 fn part(sectors: u64, at: u64, count: u64) -> Extent
     requires within { at + count ≤ sectors }
     requires few { sectors ≤ 2 ^ 31 }
