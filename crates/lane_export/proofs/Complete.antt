@@ -38,7 +38,7 @@ use Rattle.lane_serve.specs.Listeners.{Listening}
 use Rattle.lane_serve.specs.Lanes.{Ways, IsOver}
 use Rattle.lane_export.specs.declared.export_end.ExportEnd.{ExportEnd}
 use Rattle.lane_export.specs.declared.export_end.ExportEnd.TheVariants as export_end
-use Rattle.lane_export.specs.Lanes.{any_failed, Stream, ControlStart, HasServed, Exports}
+use Rattle.lane_export.specs.Lanes.{any_failed, ControlAt, HasServed, Exports}
 use Rattle.lane_export.specs.Exporting.{Moment, end_code, HasExported, IsComplete}
 
 -- only want of memory keeps such an image from being opened
@@ -88,9 +88,9 @@ last-fault history before number is =
     omega (arith, here)
 
 module _ {P A B : Type 0} (w : Ways A B) (base : Base) (tells : P → Bool) (shelf : P → ℕ) (told : P → Option (Listening A B Served)) (faults : P → ℕ) (olds news : List P) (connections : ℕ)
-    (start : ControlStart) (stream : Stream) (ended : Option ControlEnd) (image : Seen) where
+    (start later : ControlAt) (ended : Option ControlEnd) (image : Seen) where
   -- the listener of no lane failed
-  listeners-clear : (end : ExportEnd) (s : HasServed w base tells shelf told faults olds news connections start stream ended image end) → AllZip (λ x y. faults y ≤ faults x) olds news
+  listeners-clear : (end : ExportEnd) (s : HasServed w base tells shelf told faults olds news connections start later ended image end) → AllZip (λ x y. faults y ≤ faults x) olds news
       → any_failed s.ends ≡ true → ⊥
   listeners-clear end s calm failed =
       let (k, lt, here) = some-failed s.ends failed in
@@ -99,7 +99,7 @@ module _ {P A B : Type 0} (w : Ways A B) (base : Base) (tells : P → Bool) (she
       let lane = s.lanes k e f end_is.NoMore (omega (arith, lt, many)) in
       subst (λ (x : LaneEnd). IsOver x connections lane.ran.served (told (get_or news k f)) (faults (get_or olds k e)) (faults (get_or news k f))) (here end_is.NoMore) lane.ran.why)
 
-  run-clear : (end : ExportEnd) (code : ℕ) → code ≡ end_code end → Exports w base tells shelf told faults olds news connections start stream ended image end
+  run-clear : (end : ExportEnd) (code : ℕ) → code ≡ end_code end → Exports w base tells shelf told faults olds news connections start later ended image end
       → image.faults ≤ base.faults → AllZip (λ x y. faults y ≤ faults x) olds news → (code ≡ 0) ⊎ (code ≡ 5) ⊎ (image.parts.steps ≡ 2 ^ 62)
   run-clear export_end.Flushed code is s steady calm = inl is
   run-clear export_end.Memory code is s steady calm = inr (inl is)
@@ -120,7 +120,7 @@ complete w d s told faults old new connections ended code counted (inl none) cle
 complete {D} {S} {L} w d s told faults old new connections ended code counted (inr run) clear =
     let same = run.faults_are in
     let steady = clear.steady in
-    elim (run-clear w run.base _ _ (λ (pair : S × L). told pair.1) (λ (pair : S × L). faults pair.1) old.lanes new.lanes connections _ new.stream ended _ run.end code run.code_is run.exports
+    elim (run-clear w run.base _ _ (λ (pair : S × L). told pair.1) (λ (pair : S × L). faults pair.1) old.lanes new.lanes connections _ _ ended _ run.end code run.code_is run.exports
     (omega (arith, same, steady)) clear.listening) [
       | inl fine ↦ inl fine
       | inr other ↦ elim other [ inl memory ↦ inr (inl memory) | inr full ↦ inr (inr (run, full)) ]

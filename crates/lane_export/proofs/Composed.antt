@@ -9,7 +9,7 @@ use Rattle.flat_image.specs.declared.act.Asked.TheVariants.{Nothing}
 use Rattle.flat_image.specs.declared.port_fault.PortFault.TheVariants as fault
 use Rattle.flat_image.specs.declared.port_fault.PortFault.{PortFault}
 use Rattle.flat_image.specs.Entries.{entry, calls_by, StartsWith}
-use Rattle.flat_image.specs.History.{History}
+use Rattle.flat_image.specs.History.{History, fault_count}
 use Rattle.flat_image.specs.Ports.{PortState, Notes, Flushes, FlushFails}
 use Rattle.flat_image.proofs.Entries.{StartsWith-self, StartsWith-trans, calls_by-append}
 use Rattle.turn_lock.specs.Locks.{Place, place, AreSeats, IsHistory}
@@ -20,7 +20,7 @@ use Rattle.lane_serve.specs.Listeners.{Listening}
 use Rattle.lane_serve.specs.Lanes.{Ways}
 use Rattle.control_session.specs.declared.control_end.ControlEnd.{ControlEnd}
 use Rattle.control_session.specs.Sessions.{Ends}
-use Rattle.lane_export.specs.Lanes.{Member, LaneDone, LaneIn, AreFirst, any_failed, end_by, EndsWith, WhyEnded, HasServed, Exports, Stream, ControlStart, ControlDone, ControlIn, IsLast}
+use Rattle.lane_export.specs.Lanes.{Member, LaneDone, LaneIn, AreFirst, any_failed, end_by, EndsWith, WhyEnded, HasServed, Exports, ControlAt, ControlDone, ControlIn, IsLast}
 use Rattle.flat_image.specs.declared.base.Base.{Base}
 use Rattle.image_core.specs.Seen.{Seen}
 use Rattle.lane_export.specs.declared.export_end.ExportEnd.{ExportEnd}
@@ -30,18 +30,18 @@ use Rattle.lane_export.proofs.Rows.{last_is, one-home}
 use Rattle.lane_export.proofs.Served.{lane-notes}
 
 -- what a port is known by stays while a lane runs
-ran-number : {A B : Type 0} (w : Ways A B) (old : Member A B) (told : Option (Listening A B Served)) (faults : ℕ) (seat : Place Act) (connections : ℕ) (end : LaneEnd) (d : LaneDone w old told faults seat connections end) → d.port.number ≡ old.port.number
-ran-number w old told faults seat connections end d = ap (λ (s : PortState). s.number) (lane-notes w d.ran.served old.port d.port d.ran.are).1.is
+ran-number : {A B : Type 0} (w : Ways A B) (old : Member A B) (told : Option (Listening A B Served)) (faults shelf : ℕ) (seat : Place Act) (connections : ℕ) (end : LaneEnd) (d : LaneDone w old told faults shelf seat connections end) → d.port.number ≡ old.port.number
+ran-number w old told faults shelf seat connections end d = ap (λ (s : PortState). s.number) (lane-notes w d.ran.served old.port d.port d.ran.are).1.is
 
-ran-home : {A B : Type 0} (w : Ways A B) (old : Member A B) (told : Option (Listening A B Served)) (faults : ℕ) (seat : Place Act) (connections : ℕ) (end : LaneEnd) (d : LaneDone w old told faults seat connections end) → d.port.home ≡ old.port.home
-ran-home w old told faults seat connections end d = ap (λ (s : PortState). s.home) (lane-notes w d.ran.served old.port d.port d.ran.are).1.is
+ran-home : {A B : Type 0} (w : Ways A B) (old : Member A B) (told : Option (Listening A B Served)) (faults shelf : ℕ) (seat : Place Act) (connections : ℕ) (end : LaneEnd) (d : LaneDone w old told faults shelf seat connections end) → d.port.home ≡ old.port.home
+ran-home w old told faults shelf seat connections end d = ap (λ (s : PortState). s.home) (lane-notes w d.ran.served old.port d.port d.ran.are).1.is
 
 -- the seat that a lane gave back is the one with its number, of its lock
-pub seat-back : {A B : Type 0} (id : TableId) (k : ℕ) (w : Ways A B) (old : Member A B) (told : Option (Listening A B Served)) (faults : ℕ) (seat : Place Act) (connections : ℕ) (end : LaneEnd)
-    → old.port.home ≡ home_of id → old.port.number ≡ k → LaneDone w old told faults seat connections end → (seat.lock ≡ id) × (seat.number ≡ k) × (seat.holds ≡ false)
-seat-back id k w old told faults seat connections end home number d = (
-  one-home seat.lock id (sym d.seat_is.home ∙ (ran-home w old told faults seat connections end d ∙ home)),
-  sym d.seat_is.number ∙ (ran-number w old told faults seat connections end d ∙ number),
+pub seat-back : {A B : Type 0} (id : TableId) (k : ℕ) (w : Ways A B) (old : Member A B) (told : Option (Listening A B Served)) (faults shelf : ℕ) (seat : Place Act) (connections : ℕ) (end : LaneEnd)
+    → old.port.home ≡ home_of id → old.port.number ≡ k → LaneDone w old told faults shelf seat connections end → (seat.lock ≡ id) × (seat.number ≡ k) × (seat.holds ≡ false)
+seat-back id k w old told faults shelf seat connections end home number d = (
+  one-home seat.lock id (sym d.seat_is.home ∙ (ran-home w old told faults shelf seat connections end d ∙ home)),
+  sym d.seat_is.number ∙ (ran-number w old told faults shelf seat connections end d ∙ number),
   d.seat_is.idle,
 )
 
@@ -98,30 +98,31 @@ module _ (seats : List (Place Act)) (control : Place Act) (history : History) (h
       ])
 
   -- a lane that is done is a lane of the history
-  pub lane-in : {A B : Type 0} (k : ℕ) (d : Place Act) (w : Ways A B) (old : Member A B) (told : Option (Listening A B Served)) (faults connections : ℕ) (end : LaneEnd) → k < length seats → old.port.number ≡ k
-      → LaneDone w old told faults (get_or seats k d) connections end → LaneIn w history old told faults connections end
-  lane-in k d w old told faults connections end lt number done =
-      let at : (get_or seats k d).number ≡ k = sym done.seat_is.number ∙ (ran-number w old told faults (get_or seats k d) connections end done ∙ number) in
+  pub lane-in : {A B : Type 0} (k : ℕ) (d : Place Act) (w : Ways A B) (old : Member A B) (told : Option (Listening A B Served)) (faults shelf connections : ℕ) (end : LaneEnd) → k < length seats → old.port.number ≡ k
+      → LaneDone w old told faults shelf (get_or seats k d) connections end → LaneIn w history old told faults shelf connections end
+  lane-in k d w old told faults shelf connections end lt number done =
+      let at : (get_or seats k d).number ≡ k = sym done.seat_is.number ∙ (ran-number w old told faults shelf (get_or seats k d) connections end done ∙ number) in
       let mine = seat-in k d lt at in
       record {
         port = done.port;
         ran = done.ran;
         begun = subst (λ (l : History). StartsWith history l) (sym done.seat_is.seen) mine.0;
         own = subst (λ (m : ℕ). calls_by m history ≡ calls_by m done.port.seen) (sym number) (subst (λ (l : History). calls_by k history ≡ calls_by k l) (sym done.seat_is.seen) mine.1);
+        counted = done.seat_is.faults ∙ (λ i. fault_count (calls_by ((at ∙ sym number) i) (sym done.seat_is.seen i)) + shelf);
       }
 
 at_least_more : (n k : ℕ) → n ≤ k → (k ≡ n → ⊥) → (m : ℕ) → m ≡ n + 1 → m ≤ k
 at_least_more n k le other m is = elim (leb_tells (n + 1) k) [ inl more ↦ omega (arith, more.1, is) | inr less ↦ absurd (other (omega (arith, le, less.1))) ]
 
-pub seats-from : {P A B : Type 0} (id : TableId) (w : Ways A B) (pairs pairs_after : List P) (old : ℕ → P → Member A B) (told : P → Option (Listening A B Served)) (faults : P → ℕ) (seats : List (Place Act)) (connections : ℕ) (end : ℕ → LaneEnd)
+pub seats-from : {P A B : Type 0} (id : TableId) (w : Ways A B) (pairs pairs_after : List P) (old : ℕ → P → Member A B) (told : P → Option (Listening A B Served)) (faults shelf : P → ℕ) (seats : List (Place Act)) (connections : ℕ) (end : ℕ → LaneEnd)
     → length seats ≡ length pairs → ((k : ℕ) (e : P) → (old k e).port.home ≡ home_of id) → ((k : ℕ) (e : P) → (old k e).port.number ≡ k)
-    → ((k : ℕ) (e f : P) (s : Place Act) → k < length pairs → LaneDone w (old k (get_or pairs k e)) (told (get_or pairs_after k f)) (faults (get_or pairs_after k f)) (get_or seats k s) connections (end k))
+    → ((k : ℕ) (e f : P) (s : Place Act) → k < length pairs → LaneDone w (old k (get_or pairs k e)) (told (get_or pairs_after k f)) (faults (get_or pairs_after k f)) (shelf (get_or pairs_after k f)) (get_or seats k s) connections (end k))
     → AreSeats id (length seats) seats
-seats-from id w [] pairs_after old told faults seats connections end same home number done = seats-back id seats (λ k d lt. absurd (omega (arith, lt, same)))
-seats-from id w (p ∷ ps) pairs_after old told faults seats connections end same home number done =
+seats-from id w [] pairs_after old told faults shelf seats connections end same home number done = seats-back id seats (λ k d lt. absurd (omega (arith, lt, same)))
+seats-from id w (p ∷ ps) pairs_after old told faults shelf seats connections end same home number done =
     seats-back id seats (λ k d lt.
     let e = get_or (p ∷ ps) k p in
-    seat-back id k w (old k e) (told (get_or pairs_after k p)) (faults (get_or pairs_after k p)) (get_or seats k d) connections (end k) (home k e) (number k e) (done k p p d (omega (arith, lt, same))))
+    seat-back id k w (old k e) (told (get_or pairs_after k p)) (faults (get_or pairs_after k p)) (shelf (get_or pairs_after k p)) (get_or seats k d) connections (end k) (home k e) (number k e) (done k p p d (omega (arith, lt, same))))
 
 -- what the control noted behind what it had met stands at the end of the history
 pub last-act : (seats : List (Place Act)) (before control : Place Act) (history : History) (p q : PortState) (n : ℕ) (acts : List Act) → IsHistory (seats ++ control ∷ []) history → control.number ≡ n → before.number ≡ n → length seats ≡ n
@@ -202,10 +203,10 @@ closed-empty id n (s ∷ seats) history are new h =
     })
 
 -- the control is done, and noted what its last flush did: it is the control of the history
-control-noted : (seats : List (Place Act)) (before final : Place Act) (history : History) (p q : PortState) (acts : List Act) (old : Ends) (stream : Stream) (end : ControlEnd) → IsHistory (seats ++ final ∷ []) history
+control-noted : (seats : List (Place Act)) (before final : Place Act) (history : History) (p q : PortState) (acts : List Act) (old : Ends) (now : ControlAt) (end : ControlEnd) → IsHistory (seats ++ final ∷ []) history
     → final.number ≡ length seats → old.port.number ≡ length seats → IsLast acts → Notes p q acts → p.seen ≡ before.seen → p.number ≡ length seats → q.seen ≡ final.seen
-    → ControlDone old stream before end → ControlIn history old stream end
-control-noted seats before final history p q acts old stream end h number old_number what notes ps pn qs done =
+    → ControlDone old now before end → ControlIn history old now end
+control-noted seats before final history p q acts old now end h number old_number what notes ps pn qs done =
     let m = old.port.number in
     let grown : final.seen ≡ before.seen ++ notes.more = sym qs ∙ (ap (λ (s : PortState). s.seen) notes.is ∙ ap (λ (l : History). l ++ notes.more) ps) in
     let mine = control-in seats final history h number in
@@ -219,26 +220,27 @@ control-noted seats before final history p q acts old stream end h number old_nu
       last = acts;
       last_is = what;
       own = whole ∙ (ap (calls_by m) grown ∙ (calls_by-append m before.seen notes.more ∙ (λ i. done.own i ++ own_more i)));
+      counted = done.counted;
     }
 
-pub control-served : {T : Type 0} (last : Result T PortFault) (seats : List (Place Act)) (before final : Place Act) (history : History) (p q : PortState) (old : Ends) (stream : Stream) (end : ControlEnd)
+pub control-served : {T : Type 0} (last : Result T PortFault) (seats : List (Place Act)) (before final : Place Act) (history : History) (p q : PortState) (old : Ends) (now : ControlAt) (end : ControlEnd)
     → MatchResult last (λ _. Flushes p q) (FlushFails false p q) → IsHistory (seats ++ final ∷ []) history
     → final.number ≡ length seats → old.port.number ≡ length seats → p.seen ≡ before.seen → p.number ≡ length seats → q.seen ≡ final.seen
-    → ControlDone old stream before end → ControlIn history old stream end
-control-served (Ok x) seats before final history p q old stream end answer h number old_number ps pn qs done =
-    control-noted seats before final history p q (Flush ∷ []) old stream end h number old_number (inl refl) answer.notes ps pn qs done
-control-served (Err fault.Worn) seats before final history p q old stream end answer h number old_number ps pn qs done =
-    control-noted seats before final history p q [] old stream end h number old_number (inr (inr refl)) answer.1 ps pn qs done
-control-served (Err (fault.Full rows sectors)) seats before final history p q old stream end answer h number old_number ps pn qs done = absurd answer
-control-served (Err fault.Memory) seats before final history p q old stream end answer h number old_number ps pn qs done = absurd (let takes : false ≡ true = answer.1 in cc)
-control-served (Err fault.Failed) seats before final history p q old stream end answer h number old_number ps pn qs done =
-    control-noted seats before final history p q (Fault Nothing ∷ []) old stream end h number old_number (inr (inl refl)) answer.1 ps pn qs done
+    → ControlDone old now before end → ControlIn history old now end
+control-served (Ok x) seats before final history p q old now end answer h number old_number ps pn qs done =
+    control-noted seats before final history p q (Flush ∷ []) old now end h number old_number (inl refl) answer.notes ps pn qs done
+control-served (Err fault.Worn) seats before final history p q old now end answer h number old_number ps pn qs done =
+    control-noted seats before final history p q [] old now end h number old_number (inr (inr refl)) answer.1 ps pn qs done
+control-served (Err (fault.Full rows sectors)) seats before final history p q old now end answer h number old_number ps pn qs done = absurd answer
+control-served (Err fault.Memory) seats before final history p q old now end answer h number old_number ps pn qs done = absurd (let takes : false ≡ true = answer.1 in cc)
+control-served (Err fault.Failed) seats before final history p q old now end answer h number old_number ps pn qs done =
+    control-noted seats before final history p q (Fault Nothing ∷ []) old now end h number old_number (inr (inl refl)) answer.1 ps pn qs done
 
 pub exports-served : {P A B : Type 0} (w : Ways A B) (base : Base) (tells : P → Bool) (shelf : P → ℕ) (told : P → Option (Listening A B Served)) (faults : P → ℕ) (old new : List P) (connections : ℕ)
-    (start : ControlStart) (stream : Stream) (ended : Option ControlEnd) (image : Seen) (end : ExportEnd)
-    → HasServed w base tells shelf told faults old new connections start stream ended image end → Exports w base tells shelf told faults old new connections start stream ended image end
-exports-served w base tells shelf told faults old new connections start stream ended image export_end.Flushed h = h
-exports-served w base tells shelf told faults old new connections start stream ended image export_end.ListenerFailed h = h
-exports-served w base tells shelf told faults old new connections start stream ended image export_end.FlushFailed h = h
-exports-served w base tells shelf told faults old new connections start stream ended image export_end.Worn h = h
-exports-served w base tells shelf told faults old new connections start stream ended image export_end.Memory h = absurd h.why
+    (start later : ControlAt) (ended : Option ControlEnd) (image : Seen) (end : ExportEnd)
+    → HasServed w base tells shelf told faults old new connections start later ended image end → Exports w base tells shelf told faults old new connections start later ended image end
+exports-served w base tells shelf told faults old new connections start later ended image export_end.Flushed h = h
+exports-served w base tells shelf told faults old new connections start later ended image export_end.ListenerFailed h = h
+exports-served w base tells shelf told faults old new connections start later ended image export_end.FlushFailed h = h
+exports-served w base tells shelf told faults old new connections start later ended image export_end.Worn h = h
+exports-served w base tells shelf told faults old new connections start later ended image export_end.Memory h = absurd h.why

@@ -76,20 +76,29 @@ module _ {P X L : Type 0} (port : X → PortState) (listener : X → L) (first :
       ))
       (get_more pairs p e k lt)
 
-  pub gathered-more : (seen before : History) (lanes : List X) (seats : List (Place Act)) (x : X) (s : Place Act) → AreGathered port before lanes seats → StartsWith seen before → (shelf : ℕ) → IsSeatOf (port x) s shelf → StartsWith seen s.seen
-      → AreGathered port seen (lanes ++ x ∷ []) (seats ++ s ∷ [])
-  gathered-more seen before lanes seats x s g longer shelf is met = record {
+  gathered-at : (shelf : P → ℕ) (x y : X) (s t : Place Act) (p q : P) → x ≡ y → s ≡ t → p ≡ q → IsSeatOf (port x) s (shelf p) → IsSeatOf (port y) t (shelf q)
+  gathered-at shelf x y s t p q lane seat pair is =
+      subst (λ (z : X). IsSeatOf (port z) t (shelf q)) lane
+      (subst (λ (u : Place Act). IsSeatOf (port x) u (shelf q)) seat
+      (subst (λ (r : P). IsSeatOf (port x) s (shelf r)) pair is))
+
+  pub gathered-more : (shelf : P → ℕ) (seen before : History) (lanes : List X) (seats : List (Place Act)) (pairs : List P) (x : X) (s : Place Act) (p : P) → AreGathered port shelf before lanes seats pairs
+      → StartsWith seen before → length pairs ≡ length lanes → IsSeatOf (port x) s (shelf p) → StartsWith seen s.seen → AreGathered port shelf seen (lanes ++ x ∷ []) (seats ++ s ∷ []) (pairs ++ p ∷ [])
+  gathered-more shelf seen before lanes seats pairs x s p g longer many is met = record {
     count = let a = length-append lanes (x ∷ []) in let b = length-append seats (s ∷ []) in let c = g.count in omega (arith, a, b, c);
-    each = λ k d e lt. ⊎_elim
+    each = λ k d e f lt. ⊎_elim
         (λ (a : (k < length lanes) × (get_or (lanes ++ x ∷ []) k d ≡ get_or lanes k d)).
         let c = g.count in
-        subst (λ (y : X). (f : ℕ) × IsSeatOf (port y) (get_or (seats ++ s ∷ []) k e) f) (sym a.1)
-        (subst (λ (t : Place Act). (f : ℕ) × IsSeatOf (port (get_or lanes k d)) t f) (sym (get_or_append_left seats (s ∷ []) e k (omega (arith, a.0, c)))) (g.each k d e a.0)))
+        let pair : get_or (pairs ++ p ∷ []) k f ≡ get_or pairs k f = get_or_append_left pairs (p ∷ []) f k (omega (arith, a.0, many)) in
+        let seat : get_or (seats ++ s ∷ []) k e ≡ get_or seats k e = get_or_append_left seats (s ∷ []) e k (omega (arith, a.0, c)) in
+        gathered-at shelf _ _ _ _ _ _ (sym a.1) (sym seat) (sym pair) (g.each k d e f a.0))
         (λ (a : (k ≡ length lanes) × (get_or (lanes ++ x ∷ []) k d ≡ x)).
         let c = g.count in
         let m : k ≡ length seats = omega (arith, a.0, c) in
-        subst (λ (y : X). (f : ℕ) × IsSeatOf (port y) (get_or (seats ++ s ∷ []) k e) f) (sym a.1)
-        (subst (λ (t : Place Act). (f : ℕ) × IsSeatOf (port x) t f) (sym (ap (λ (n : ℕ). get_or (seats ++ s ∷ []) n e) m ∙ last_is seats s e)) (shelf, is)))
+        let n : k ≡ length pairs = omega (arith, a.0, many) in
+        let pair : get_or (pairs ++ p ∷ []) k f ≡ p = ap (λ (i : ℕ). get_or (pairs ++ p ∷ []) i f) n ∙ last_is pairs p f in
+        let seat : get_or (seats ++ s ∷ []) k e ≡ s = ap (λ (i : ℕ). get_or (seats ++ s ∷ []) i e) m ∙ last_is seats s e in
+        gathered-at shelf _ _ _ _ _ _ (sym a.1) (sym seat) (sym pair) is)
         (get_more lanes x d k lt);
     met = all-more (λ (t : Place Act). StartsWith seen t.seen) seats s (λ k d lt. StartsWith-trans seen before (get_or seats k d).seen longer (g.met k d lt)) met;
   }
@@ -146,12 +155,14 @@ module _ {P X L : Type 0} (port : X → PortState) (listener : X → L) (first :
       subst (λ (ps : List P). AreDealt port listener first its ps new) (sym a)
       (subst (λ (ls : List X). AreDealt port listener first its (rest ++ p ∷ []) ls) (sym n) (dealt-more port listener first its rest lanes p x same h at on))
 
-  pub gathered-joined : (seen before : History) (all lanes : List X) (new seats : List (Place Act)) (x : X) (s t : Place Act) → all ≡ lanes ++ x ∷ [] → new ≡ seats ++ t ∷ [] → t ≡ s → AreGathered port before lanes seats
-      → StartsWith seen before → (shelf : ℕ) → IsSeatOf (port x) s shelf → StartsWith seen s.seen → AreGathered port seen all new
-  gathered-joined seen before all lanes new seats x s t a n same g longer shelf is met =
-      subst (λ (ls : List X). AreGathered port seen ls new) (sym a)
-      (subst (λ (ts : List (Place Act)). AreGathered port seen (lanes ++ x ∷ []) ts) (sym (n ∙ ap (λ (y : Place Act). seats ++ y ∷ []) same))
-      (gathered-more port listener first its seen before lanes seats x s g longer shelf is met))
+  pub gathered-joined : (shelf : P → ℕ) (seen before : History) (all lanes : List X) (new seats : List (Place Act)) (given pairs : List P) (x : X) (s t : Place Act) (p : P)
+      → all ≡ lanes ++ x ∷ [] → new ≡ seats ++ t ∷ [] → given ≡ pairs ++ p ∷ [] → t ≡ s → AreGathered port shelf before lanes seats pairs
+      → StartsWith seen before → length pairs ≡ length lanes → IsSeatOf (port x) s (shelf p) → StartsWith seen s.seen → AreGathered port shelf seen all new given
+  gathered-joined shelf seen before all lanes new seats given pairs x s t p a n b same g longer many is met =
+      subst (λ (ls : List X). AreGathered port shelf seen ls new given) (sym a)
+      (subst (λ (ts : List (Place Act)). AreGathered port shelf seen (lanes ++ x ∷ []) ts given) (sym (n ∙ ap (λ (y : Place Act). seats ++ y ∷ []) same))
+      (subst (λ (ps : List P). AreGathered port shelf seen (lanes ++ x ∷ []) (seats ++ s ∷ []) ps) (sym b)
+      (gathered-more port listener first its shelf seen before lanes seats pairs x s p g longer many is met)))
 
   pub fresh-dealt : (Q : L → Type 0) (pairs : List P) (lanes : List X) → length lanes ≡ length pairs → AreDealt port listener first its pairs lanes → All (λ p. Q (its p)) pairs → All (λ x. Q (listener x)) lanes
   fresh-dealt Q [] lanes same h fresh k d lt = absurd (omega (arith, lt, same))

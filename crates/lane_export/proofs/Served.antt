@@ -66,7 +66,7 @@ get_any [] k d e lt = absurd (omega (arith, lt))
 get_any (x ∷ xs) zero d e lt = refl
 get_any (x ∷ xs) (suc k) d e lt = get_any xs k d e (omega (arith, lt))
 
-module _ {P X L A B : Type 0} (port : X → PortState) (listener : X → L) (end : X → LaneEnd) (first : ℕ → P → PortState) (its : P → L) (told : L → Option (Listening A B Served)) (faults : L → ℕ) where
+module _ {P X L A B : Type 0} (port : X → PortState) (listener : X → L) (end : X → LaneEnd) (first : ℕ → P → PortState) (its : P → L) (told : L → Option (Listening A B Served)) (faults : L → ℕ) (shelf : P → ℕ) where
   abbrev lane_of : X → Member A B
   lane_of x = record { port = port x; told = told (listener x); faults = faults (listener x) }
 
@@ -74,10 +74,10 @@ module _ {P X L A B : Type 0} (port : X → PortState) (listener : X → L) (end
   pub lanes-done : (w : Ways A B) (connections : ℕ) (seen : History) (pairs pairs_after : List P) (old new : List X) (seats : List (Place Act))
       → length old ≡ length pairs → length new ≡ length old → AreDealt port listener first its pairs old
       → ((k : ℕ) (d : X) → k < length old → LaneRan w (lane_of (get_or old k d)) (lane_of (get_or new k d)) connections (end (get_or new k d)))
-      → AreGathered port seen new seats → map its pairs_after ≡ map listener new
+      → AreGathered port shelf seen new seats pairs_after → map its pairs_after ≡ map listener new
       → (k : ℕ) (e f : P) (s : Place Act) (d : LaneEnd) → k < length pairs
       → LaneDone w (record { port = first k (get_or pairs k e); told = told (its (get_or pairs k e)); faults = faults (its (get_or pairs k e)) })
-      (told (its (get_or pairs_after k f))) (faults (its (get_or pairs_after k f))) (get_or seats k s) connections (get_or (map end new) k d)
+      (told (its (get_or pairs_after k f))) (faults (its (get_or pairs_after k f))) (shelf (get_or pairs_after k f)) (get_or seats k s) connections (get_or (map end new) k d)
   lanes-done w connections seen pairs pairs_after old [] seats many same dealt ran gathered back k e f s d lt = absurd (omega (arith, lt, many, same))
   lanes-done w connections seen pairs pairs_after old (x ∷ xs) seats many same dealt ran gathered back k e f s d lt =
       let new : List X = x ∷ xs in
@@ -95,15 +95,14 @@ module _ {P X L A B : Type 0} (port : X → PortState) (listener : X → L) (end
       let ended : get_or (map end new) k d ≡ end (get_or new k x) =
       get_any (map end new) k d (end x) (let m = length-map new end in omega (arith, here, m)) ∙ get_map end new k x in
       subst (LaneDone w (record { port = first k (get_or pairs k e); told = told (its (get_or pairs k e)); faults = faults (its (get_or pairs k e)) })
-      (told (its (get_or pairs_after k f))) (faults (its (get_or pairs_after k f))) (get_or seats k s) connections) (sym ended) (record {
+      (told (its (get_or pairs_after k f))) (faults (its (get_or pairs_after k f))) (shelf (get_or pairs_after k f)) (get_or seats k s) connections) (sym ended) (record {
         port = port (get_or new k x);
         ran = subst (λ (m : Member A B). LaneRan w m (record { port = port (get_or new k x); told = told (its (get_or pairs_after k f)); faults = faults (its (get_or pairs_after k f)) }) connections (end (get_or new k x))) from
             (subst (λ (y : L). LaneRan w (lane_of (get_or old k x)) (record { port = port (get_or new k x); told = told y; faults = faults y }) connections (end (get_or new k x))) (sym gave) (ran k x inside));
-        shelf = (gathered.each k x s here).0;
-        seat_is = (gathered.each k x s here).1;
+        seat_is = gathered.each k x s f here;
       })
 
-  pub counts-gathered : (seen : History) (lanes new : List X) (seats : List (Place Act)) (pairs_after : List P) → AreGathered port seen lanes seats → map its pairs_after ≡ map listener lanes → lanes ≡ new
+  pub counts-gathered : (seen : History) (lanes new : List X) (seats : List (Place Act)) (pairs_after : List P) → AreGathered port shelf seen lanes seats pairs_after → map its pairs_after ≡ map listener lanes → lanes ≡ new
       → (length seats ≡ length new) × (length pairs_after ≡ length new)
   counts-gathered seen lanes new seats pairs_after g back same = (
     g.count ∙ ap (λ (l : List X). length l) same,

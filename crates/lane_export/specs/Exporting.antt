@@ -25,7 +25,7 @@ use Rattle.image_commands.specs.Clear.{IsOpen}
 use Rattle.lane_export.specs.declared.export_end.ExportEnd.{ExportEnd}
 use Rattle.lane_export.specs.declared.export_end.ExportEnd.TheVariants as end
 use Rattle.control_session.specs.declared.control_end.ControlEnd.{ControlEnd}
-use Rattle.lane_export.specs.Lanes.{Stream, ExportsLanes, start_of, stream_of}
+use Rattle.lane_export.specs.Lanes.{Stream, ExportsLanes, control_at, stream_of}
 
 -- all that an export is handed and hands back, at one moment: the disk, the control's shelf, the lanes, and the control's stream
 pub record Moment (D S L : Type 0) : Type 0 where
@@ -71,7 +71,7 @@ pub record HasRun {D S L A B : Type 0} (w : Ways A B) (d : disks.Ghosts D) (s : 
   pub end : ExportEnd
   pub code_is : code ≡ end_code end
   pub many : length new.lanes ≡ length old.lanes
-  pub exports : ExportsLanes w d s told faults base old.lanes new.lanes connections (start_of d s old.shelf old.stream) new.stream ended (with_disk d new.disk parts) end
+  pub exports : ExportsLanes w d s told faults base old.lanes new.lanes connections (control_at d s old.shelf old.stream) (control_at d s new.shelf new.stream) ended (with_disk d new.disk parts) end
 
 -- an export of the image on a disk over shelves
 abbrev pub HasExported : {D S L A B : Type 0} → Ways A B → disks.Ghosts D → shelves.Ghosts S → (L → Option (Listening A B Served)) → (L → ℕ) → (old new : Moment D S L)

@@ -7,11 +7,11 @@ use Rattle.flat_image.specs.declared.port_fault.PortFault.TheVariants as fault
 use Rattle.image_core.specs.Seen.{Seen, StandsFor}
 use Rattle.lane_export.specs.declared.export_end.ExportEnd.{ExportEnd}
 use Rattle.lane_export.specs.declared.export_end.ExportEnd.TheVariants as export_end
-use Rattle.std.specs.Prelude.{◌||◌, ◌&&◌, is_some, true, ◌≡◌, ◌⊎◌, ℕ, ◌^◌, ◌<◌, Bool, false, List, [], ◌∷◌, ◌++◌, length, map, slice_index_or, Option, Some, None, All, Result, Ok, Err}
+use Rattle.std.specs.Prelude.{◌||◌, ◌&&◌, is_some, true, ◌≡◌, ◌⊎◌, ℕ, ◌+◌, ◌^◌, ◌<◌, Bool, false, List, [], ◌∷◌, ◌++◌, length, map, slice_index_or, Option, Some, None, All, Result, Ok, Err}
 use Rattle.atomic_table.specs.Seated.{TableId}
 use Rattle.flat_image.specs.declared.act.Act.{Act}
 use Rattle.flat_image.specs.Entries.{entry, calls_by, StartsWith}
-use Rattle.flat_image.specs.History.{History, now}
+use Rattle.flat_image.specs.History.{History, now, fault_count}
 use Rattle.flat_image.specs.Left.{Blamed}
 use Rattle.flat_image.specs.Ports.{PortState}
 use Rattle.turn_lock.specs.Locks.{Lock, Place, place}
@@ -73,27 +73,28 @@ abbrev pub AreDealt : {P X L : Type 0} → (X → PortState) → (X → L) → (
 AreDealt {P} {X} port listener first its pairs lanes =
     (k : ℕ) (e : P) (d : X) → k < length pairs → (port (slice_index_or lanes k d) ≡ first k (slice_index_or pairs k e)) × (listener (slice_index_or lanes k d) ≡ its (slice_index_or pairs k e))
 
--- each seat is that of the lane's port at its place, and all of it was seen
-pub record AreGathered {X : Type 0} (port : X → PortState) (seen : History) (lanes : List X) (seats : List (Place Act)) : Type 0 where
+-- each seat is that of the lane's port at its place, beside the shelf of the pair there, and all of it was seen
+pub record AreGathered {P X : Type 0} (port : X → PortState) (shelf : P → ℕ) (seen : History) (lanes : List X) (seats : List (Place Act)) (pairs : List P) : Type 0 where
   pub count : length seats ≡ length lanes
-  pub each : (k : ℕ) (d : X) (e : Place Act) → k < length lanes → (shelf : ℕ) × IsSeatOf (port (slice_index_or lanes k d)) (slice_index_or seats k e) shelf
+  pub each : (k : ℕ) (d : X) (e : Place Act) (f : P) → k < length lanes → IsSeatOf (port (slice_index_or lanes k d)) (slice_index_or seats k e) (shelf (slice_index_or pairs k f))
   pub met : All (λ seat. StartsWith seen seat.seen) seats
 
 -- A lane is done: it ran from this port and this listener, whose connections and faults are these now, and this seat is
--- that of its port.
-pub record LaneDone {A B : Type 0} (w : Ways A B) (old : Member A B) (told : Option (Listening A B Served)) (faults : ℕ) (seat : Place Act) (connections : ℕ) (end : LaneEnd) : Type 0 where
+-- that of its port, beside its shelf, which has counted so many faults by now.
+pub record LaneDone {A B : Type 0} (w : Ways A B) (old : Member A B) (told : Option (Listening A B Served)) (faults : ℕ) (shelf : ℕ) (seat : Place Act) (connections : ℕ) (end : LaneEnd) : Type 0 where
   pub port : PortState
   pub ran : LaneRan w old (record { port = port; told = told; faults = faults }) connections end
-  pub shelf : ℕ
   pub seat_is : IsSeatOf port seat shelf
 
 -- And what it comes to once the lock is closed over this history: the lane saw a beginning of it, and noted all entries of
--- its number there.
-pub record LaneIn {A B : Type 0} (w : Ways A B) (history : History) (old : Member A B) (told : Option (Listening A B Served)) (faults : ℕ) (connections : ℕ) (end : LaneEnd) : Type 0 where
+-- its number there. Its count of faults is that of its own Fault entries, and what its shelf has counted: at the end, as it
+-- was at the beginning.
+pub record LaneIn {A B : Type 0} (w : Ways A B) (history : History) (old : Member A B) (told : Option (Listening A B Served)) (faults : ℕ) (shelf : ℕ) (connections : ℕ) (end : LaneEnd) : Type 0 where
   pub port : PortState
   pub ran : LaneRan w old (record { port = port; told = told; faults = faults }) connections end
   pub begun : StartsWith history port.seen
   pub own : calls_by old.port.number history ≡ calls_by old.port.number port.seen
+  pub counted : port.faults ≡ fault_count (calls_by old.port.number port.seen) + shelf
 
 -- ---- the control
 
@@ -109,40 +110,43 @@ pub record Stream : Type 0 where
 abbrev pub stream_of : {A B : Type 0} → sources.Ghosts A → sinks.Ghosts B → A → B → Stream
 stream_of a b source sink = record { left = a.left source; reads = a.faults source; written = b.written sink; writes = b.faults sink }
 
--- the control before it did anything: whether its shelf and the disk tell, what that shelf has counted, and its stream
-pub record ControlStart : Type 0 where
+-- the control at one moment: whether its shelf and the disk tell, what that shelf has counted, and its stream
+pub record ControlAt : Type 0 where
   pub tells : Bool
   pub shelf : ℕ
   pub stream : Stream
 
 -- the control of a shelf and a stream, beside a disk
-abbrev pub start_of : {D S : Type 0} → disks.Ghosts D → shelves.Ghosts S → S → Stream → ControlStart
-start_of d s shelf stream = record { tells = d.tells && is_some (s.files shelf); shelf = s.faults shelf; stream = stream }
+abbrev pub control_at : {D S : Type 0} → disks.Ghosts D → shelves.Ghosts S → S → Stream → ControlAt
+control_at d s shelf stream = record { tells = d.tells && is_some (s.files shelf); shelf = s.faults shelf; stream = stream }
 
 abbrev pub ends_at : Stream → PortState → Ends
 ends_at stream port = ends stream.left stream.reads stream.written stream.writes port
 
--- The control is done: its stream was served from this port on, and its seat has seen what that one saw, and noted nothing
--- else.
-pub record ControlDone (old : Ends) (stream : Stream) (seat : Place Act) (end : ControlEnd) : Type 0 where
+-- The control is done: its stream was served from this port on, beside its shelf, and its seat has seen what that one saw,
+-- and noted nothing else.
+pub record ControlDone (old : Ends) (new : ControlAt) (seat : Place Act) (end : ControlEnd) : Type 0 where
   pub port : PortState
-  pub serves : Serves control old (ends_at stream port) end
+  pub serves : Serves control old (ends_at new.stream port) end
   pub seen : StartsWith seat.seen port.seen
   pub own : calls_by old.port.number seat.seen ≡ calls_by old.port.number port.seen
+  pub counted : port.faults ≡ fault_count (calls_by old.port.number port.seen) + new.shelf
 
 -- what the control's last flush noted
 abbrev pub IsLast : List Act → Type 0
 IsLast acts = (acts ≡ Flush ∷ []) ⊎ ((acts ≡ Fault Nothing ∷ []) ⊎ (acts ≡ []))
 
 -- And what it comes to once the lock is closed over this history: its port saw a beginning of it, and all entries of its
--- number are those of its lines and what the last flush noted.
-pub record ControlIn (history : History) (old : Ends) (stream : Stream) (end : ControlEnd) : Type 0 where
+-- number are those of its lines and what the last flush noted. The count of faults of its lines is that of their own Fault
+-- entries, and what its shelf has counted.
+pub record ControlIn (history : History) (old : Ends) (new : ControlAt) (end : ControlEnd) : Type 0 where
   pub port : PortState
-  pub serves : Serves control old (ends_at stream port) end
+  pub serves : Serves control old (ends_at new.stream port) end
   pub begun : StartsWith history port.seen
   pub last : List Act
   pub last_is : IsLast last
   pub own : calls_by old.port.number history ≡ calls_by old.port.number port.seen ++ map (entry old.port.number) last
+  pub counted : port.faults ≡ fault_count (calls_by old.port.number port.seen) + new.shelf
 
 -- how an export ends, by whether a listener has failed and by the last flush
 abbrev pub end_by : {T : Type 0} → Bool → Result T PortFault → ExportEnd
@@ -176,7 +180,7 @@ IsUnblamed history = ((uuid : List ℕ) → Blamed history (Uuid uuid) → ⊥) 
 
 -- The lanes were served. There is one history, for which the image stands over the base. The lanes' numbers are those of
 -- their places, the control's is their number, and no others have entries.
-pub record HasServed {P A B : Type 0} (w : Ways A B) (base : Base) (tells : P → Bool) (shelf : P → ℕ) (told : P → Option (Listening A B Served)) (faults : P → ℕ) (old new : List P) (connections : ℕ) (start : ControlStart) (stream : Stream) (control_end : Option ControlEnd) (image : Seen) (end : ExportEnd) : Type 0 where
+pub record HasServed {P A B : Type 0} (w : Ways A B) (base : Base) (tells : P → Bool) (shelf : P → ℕ) (told : P → Option (Listening A B Served)) (faults : P → ℕ) (old new : List P) (connections : ℕ) (start later : ControlAt) (control_end : Option ControlEnd) (image : Seen) (end : ExportEnd) : Type 0 where
   pub lock : Lock Base
   pub base_is : lock.base ≡ base
   pub first_is : lock.first ≡ 0
@@ -186,11 +190,11 @@ pub record HasServed {P A B : Type 0} (w : Ways A B) (base : Base) (tells : P �
   pub many : length ends ≡ length old
   pub lanes : (k : ℕ) (e f : P) (d : LaneEnd) → k < length old → LaneIn w history
       (record { port = first_port (tells (slice_index_or old k e)) lock k (shelf (slice_index_or old k e)); told = told (slice_index_or old k e); faults = faults (slice_index_or old k e) })
-      (told (slice_index_or new k f)) (faults (slice_index_or new k f)) connections (slice_index_or ends k d)
+      (told (slice_index_or new k f)) (faults (slice_index_or new k f)) (shelf (slice_index_or new k f)) connections (slice_index_or ends k d)
   pub others : (k : ℕ) → length old < k → calls_by k history ≡ []
   pub control_ended : ControlEnd
   pub told_end : control_end ≡ Some control_ended
-  pub control_is : ControlIn history (ends_at start.stream (first_port start.tells lock (length old) start.shelf)) stream control_ended
+  pub control_is : ControlIn history (ends_at start.stream (first_port start.tells lock (length old) start.shelf)) later control_ended
   pub why : WhyEnded ends history (length old) end
   pub left : LeavesOf (port_of image) base history
   pub holds : end ≡ export_end.Flushed → IsUnblamed history → Holds (port_of image) (now base history)
@@ -198,20 +202,20 @@ pub record HasServed {P A B : Type 0} (w : Ways A B) (base : Base) (tells : P �
 -- an export of an image. Where memory was wanting, nothing was served and nothing noted, and all lanes and the control are as
 -- they were
 abbrev pub Exports : {P A B : Type 0} → Ways A B → Base → (P → Bool) → (P → ℕ) → (P → Option (Listening A B Served)) → (P → ℕ) → List P → List P → ℕ
-    → ControlStart → Stream → Option ControlEnd → Seen → ExportEnd → Type 0
-Exports w base tells shelf told faults old new connections start stream ended image export_end.Flushed =
-    HasServed w base tells shelf told faults old new connections start stream ended image export_end.Flushed
-Exports w base tells shelf told faults old new connections start stream ended image export_end.ListenerFailed =
-    HasServed w base tells shelf told faults old new connections start stream ended image export_end.ListenerFailed
-Exports w base tells shelf told faults old new connections start stream ended image export_end.FlushFailed =
-    HasServed w base tells shelf told faults old new connections start stream ended image export_end.FlushFailed
-Exports w base tells shelf told faults old new connections start stream ended image export_end.Worn =
-    HasServed w base tells shelf told faults old new connections start stream ended image export_end.Worn
-Exports w base tells shelf told faults old new connections start stream ended image export_end.Memory =
-    StandsFor image base [] × (new ≡ old) × (stream ≡ start.stream) × (ended ≡ None)
+    → ControlAt → ControlAt → Option ControlEnd → Seen → ExportEnd → Type 0
+Exports w base tells shelf told faults old new connections start later ended image export_end.Flushed =
+    HasServed w base tells shelf told faults old new connections start later ended image export_end.Flushed
+Exports w base tells shelf told faults old new connections start later ended image export_end.ListenerFailed =
+    HasServed w base tells shelf told faults old new connections start later ended image export_end.ListenerFailed
+Exports w base tells shelf told faults old new connections start later ended image export_end.FlushFailed =
+    HasServed w base tells shelf told faults old new connections start later ended image export_end.FlushFailed
+Exports w base tells shelf told faults old new connections start later ended image export_end.Worn =
+    HasServed w base tells shelf told faults old new connections start later ended image export_end.Worn
+Exports w base tells shelf told faults old new connections start later ended image export_end.Memory =
+    StandsFor image base [] × (new ≡ old) × (later ≡ start) × (ended ≡ None)
 
 -- the same of lanes that are pairs of a shelf and a listener, over an image on a disk
 abbrev pub ExportsLanes : {D S L A B : Type 0} → Ways A B → disks.Ghosts D → shelves.Ghosts S → (L → Option (Listening A B Served)) → (L → ℕ) → Base → List (S × L) → List (S × L) → ℕ
-    → ControlStart → Stream → Option ControlEnd → Seen → ExportEnd → Type 0
-ExportsLanes w d s told faults base old new connections start stream ended image end =
-    Exports w base (λ pair. d.tells && is_some (s.files pair.0)) (λ pair. s.faults pair.0) (λ pair. told pair.1) (λ pair. faults pair.1) old new connections start stream ended image end
+    → ControlAt → ControlAt → Option ControlEnd → Seen → ExportEnd → Type 0
+ExportsLanes w d s told faults base old new connections start later ended image end =
+    Exports w base (λ pair. d.tells && is_some (s.files pair.0)) (λ pair. s.faults pair.0) (λ pair. told pair.1) (λ pair. faults pair.1) old new connections start later ended image end

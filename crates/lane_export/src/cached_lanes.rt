@@ -5,7 +5,7 @@ ghost use Rattle.image_core.specs.Seen.{seen, StandsFor};
 ghost use Rattle.std.specs.Option.{ForSome};
 ghost use Rattle.lane_serve.specs.Listeners.{IsFresh};
 ghost use Rattle.lane_export.specs.Exporting.{HaveSameFiles};
-ghost use Rattle.lane_export.specs.Lanes.{ExportsLanes, start_of, stream_of, ways_of};
+ghost use Rattle.lane_export.specs.Lanes.{ExportsLanes, control_at, stream_of, ways_of};
 
 use crate::caching::{cache_all, cache_control, start_cache, uncached, uncached_control};
 use crate::export_end::ExportEnd;
@@ -63,8 +63,9 @@ fn export_named<
     ensures exports { ExportsLanes
         (ways_of L.A.Source L.B.Sink export.entry.now) D.Disk S.Shelf L.told L.faults base.value pairs.items
         result.1.items connections
-        (start_of D.Disk S.Shelf control.shelf (stream_of A.Source B.Sink control.source control.sink))
-        (stream_of A.Source B.Sink result.3.source result.3.sink) result.4 (seen D.Disk result.0) result.2 }
+        (control_at D.Disk S.Shelf control.shelf (stream_of A.Source B.Sink control.source control.sink))
+        (control_at D.Disk S.Shelf result.3.shelf (stream_of A.Source B.Sink result.3.source result.3.sink)) result.4
+        (seen D.Disk result.0) result.2 }
 {
     let _ = base;
     export_image::<N, D, S, L, A, B, R>(rt, alloc, export, connections, image, pairs, control)
@@ -110,8 +111,9 @@ fn export_with<
     ensures exports { ExportsLanes
         (ways_of L.A.Source L.B.Sink export.entry.now) D.Disk S.Shelf L.told L.faults base.value pairs.items
         result.1.items connections
-        (start_of D.Disk S.Shelf control.shelf (stream_of A.Source B.Sink control.source control.sink))
-        (stream_of A.Source B.Sink result.3.source result.3.sink) result.4 (seen D.Disk result.0) result.2 }
+        (control_at D.Disk S.Shelf control.shelf (stream_of A.Source B.Sink control.source control.sink))
+        (control_at D.Disk S.Shelf result.3.shelf (stream_of A.Source B.Sink result.3.source result.3.sink)) result.4
+        (seen D.Disk result.0) result.2 }
 {
     let count = pairs.len();
     let Ok(mut plain) = Vec::with_capacity(alloc, count) else {
@@ -190,8 +192,9 @@ pub(crate) fn export_cached<
     ensures exports { ExportsLanes
         (ways_of L.A.Source L.B.Sink export.entry.now) D.Disk S.Shelf L.told L.faults base.value pairs.items
         result.1.items connections
-        (start_of D.Disk S.Shelf control.shelf (stream_of A.Source B.Sink control.source control.sink))
-        (stream_of A.Source B.Sink result.3.source result.3.sink) result.4 (seen D.Disk result.0) result.2 }
+        (control_at D.Disk S.Shelf control.shelf (stream_of A.Source B.Sink control.source control.sink))
+        (control_at D.Disk S.Shelf result.3.shelf (stream_of A.Source B.Sink result.3.source result.3.sink)) result.4
+        (seen D.Disk result.0) result.2 }
 {
     let count = pairs.len();
     match start_cache::<Brand, S>(alloc, blocks, count as u32 + 1, &control.shelf) {

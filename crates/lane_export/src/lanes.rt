@@ -9,11 +9,11 @@ ghost use Rattle.flat_image.specs.Entries.{entry, calls_by, StartsWith};
 ghost use Rattle.turn_lock.specs.Locks.{Lock, IsLater};
 ghost use Rattle.image_core.specs.Seen.{seen, StandsFor};
 ghost use Rattle.shared_image.specs.Turns.{home_of, seat_port, IsIdleSeat, IsSameSeat};
-ghost use Rattle.image_control.specs.Seats.{IsSeatOf};
+ghost use Rattle.image_control.specs.Seats.{IsSeatOf, HasCounted};
 ghost use Rattle.lane_serve.specs.Listeners.{IsFresh};
 ghost use Rattle.lane_serve.specs.declared.lane.LaneEnd.{LaneEnd};
 ghost use Rattle.lane_export.specs.Ran.{AllRan};
-ghost use Rattle.lane_export.specs.Lanes.{is_failed, any_failed, member, LaneRan, LaneDone, LaneIn, AreFirst, first_port, end_by, ExportsLanes, AreDealt, AreGathered, ends_at, start_of, stream_of, ways_of, ControlDone};
+ghost use Rattle.lane_export.specs.Lanes.{is_failed, any_failed, member, LaneRan, LaneDone, LaneIn, AreFirst, first_port, end_by, ExportsLanes, AreDealt, AreGathered, ends_at, control_at, stream_of, ways_of, ControlDone};
 
 use crate::export_end::ExportEnd;
 use crate::parts::Control;
@@ -274,8 +274,8 @@ fn gather<'a, D: Disk + Drop, S: Shelf + Drop, L: Listener<E = Served> + Drop, R
         × (vec_capacity pairs.new ≡ vec_capacity pairs.old) }
     ensures same { IsSameSeat control.old control.new }
     ensures later { IsLater control.old control.new }
-    ensures each { AreGathered (λ lane. ⟦<Reader<'a, D, S, R> as ImagePort>⟧.state lane.reader) control.new.seen
-        lanes.entry.items seats.new.items }
+    ensures each { AreGathered (λ lane. ⟦<Reader<'a, D, S, R> as ImagePort>⟧.state lane.reader)
+        (λ pair. S.faults pair.0) control.new.seen lanes.entry.items seats.new.items pairs.new.items }
     ensures listeners { map (λ pair. pair.1) pairs.new.items ≡ map (λ lane. lane.listener) lanes.entry.items }
     ensures failed { result ≡ any_failed (map (λ lane. lane.end) lanes.entry.items) }
 {
@@ -332,6 +332,8 @@ fn control_back<'a, D: Disk + Drop, S: Shelf + Drop, A: Source, B: Sink, R: Wait
     lane: ControlLane<'a, D, S, A, B, R>,
 ) -> (ImageSeat<D>, Control<S, A, B>, ControlEnd)
     ensures seat { IsSeatOf (⟦<ControlSeat<'a, D, S, R> as ControlPort>⟧.state lane.entry.port) result.0 }
+    ensures faults { HasCounted (⟦<ControlSeat<'a, D, S, R> as ControlPort>⟧.state lane.entry.port) result.0
+        (S.faults result.1.shelf) }
     ensures stream { stream_of A.Source B.Sink result.1.source result.1.sink
         ≡ stream_of A.Source B.Sink lane.entry.source lane.entry.sink }
     ensures end { result.2 ≡ lane.entry.end }
@@ -405,7 +407,7 @@ fn serve_in_lanes<
     ensures served { IfOk result (λ r. ControlDone
         (ends_at (stream_of A.Source B.Sink control.source control.sink)
         (seat_port (D.tells && is_some (S.files control.shelf)) image.entry.now seat (S.faults control.shelf)))
-        (stream_of A.Source B.Sink r.4.source r.4.sink) r.3 r.5) }
+        (control_at D.Disk S.Shelf r.4.shelf (stream_of A.Source B.Sink r.4.source r.4.sink)) r.3 r.5) }
     ensures count { IfOk result (λ r. (length r.0.items ≡ length pairs.items) × (length r.1.items ≡ length
         pairs.items) × (length pairs.items < vec_capacity r.0)) }
     ensures met { IfOk result (λ r. All (λ lane. StartsWith r.3.seen lane.seen) r.0.items) }
@@ -416,8 +418,9 @@ fn serve_in_lanes<
         (first_port (D.tells && is_some (S.files (slice_index_or pairs.items k e).0)) image.entry.now k
         (S.faults (slice_index_or pairs.items k e).0))
         (slice_index_or pairs.items k e).1)
-        (L.told (slice_index_or r.1.items k f).1) (L.faults (slice_index_or r.1.items k f).1) (slice_index_or
-        r.0.items k s) connections (slice_index_or ends k d))) }
+        (L.told (slice_index_or r.1.items k f).1) (L.faults (slice_index_or r.1.items k f).1)
+        (S.faults (slice_index_or r.1.items k f).0) (slice_index_or r.0.items k s) connections
+        (slice_index_or ends k d))) }
     ensures unserved { IfErr result (λ r. (r.0.items ≡ seats.items) × (vec_capacity r.0 ≡ vec_capacity seats) ×
         (r.1.items ≡ pairs.items) × (r.2 ≡ seat) × (r.3 ≡ control)) }
 {
@@ -502,8 +505,9 @@ pub fn export_image<
     ensures exports { ExportsLanes
         (ways_of L.A.Source L.B.Sink export.entry.now) D.Disk S.Shelf L.told L.faults N.it pairs.items
         result.1.items connections
-        (start_of D.Disk S.Shelf control.shelf (stream_of A.Source B.Sink control.source control.sink))
-        (stream_of A.Source B.Sink result.3.source result.3.sink) result.4 (seen D.Disk result.0) result.2 }
+        (control_at D.Disk S.Shelf control.shelf (stream_of A.Source B.Sink control.source control.sink))
+        (control_at D.Disk S.Shelf result.3.shelf (stream_of A.Source B.Sink result.3.source result.3.sink)) result.4
+        (seen D.Disk result.0) result.2 }
 {
     let count = pairs.len();
     let (shared, seats) = match SharedImage::start::<N>(alloc, image, count as u32 + 1, 0) {

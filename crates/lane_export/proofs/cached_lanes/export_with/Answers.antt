@@ -7,7 +7,7 @@ use Rattle.block_cache.specs.declared.history.CacheAct.{CacheAct}
 use Rattle.image_core.specs.Seen.{seen}
 use Rattle.lane_export.specs.Caching.{bare}
 use Rattle.lane_serve.specs.Lanes.{Ways}
-use Rattle.lane_export.specs.Lanes.{Stream, ControlStart, stream_of, Exports}
+use Rattle.lane_export.specs.Lanes.{ControlAt, control_at, stream_of, Exports}
 use Rattle.lane_export.proofs.Bare.{all-mapped, exports-back}
 use Rattle.lane_export.proofs.cached_lanes.export_with.Goals as goal
 
@@ -41,19 +41,20 @@ returns-clause-exports g c =
     let counted : g.row.S.Denot × g.row.L.Denot → ℕ = λ pair. g.L.Listener.faults pair.1 in
     let was = c.in-Ok-cache_control.ensures.ok in
     let inner = c.export_named-image.result.3 in
-    let start : (s : g.row.S.Denot) (a : g.row.A.Denot) (b : g.row.B.Denot) → ControlStart = λ s a b. record { tells = g.D.Disk.tells && is_some (g.S.Shelf.files s); shelf = g.S.Shelf.faults s; stream = stream_of g.A.Source g.B.Sink a b } in
-    let started : start c.in-Ok-cache_control.control.shelf.shelf c.in-Ok-cache_control.control.source c.in-Ok-cache_control.control.sink ≡ start c.args.control.shelf c.args.control.source c.args.control.sink =
-    λ i. start (was.0 i) (was.1 i) (was.2 i) in
-    let ended : stream_of g.A.Source g.B.Sink c.uncached_control-2.result.source c.uncached_control-2.result.sink ≡ stream_of g.A.Source g.B.Sink inner.source inner.sink =
-    λ i. stream_of g.A.Source g.B.Sink (c.uncached_control-2.ensures.stream.0 i) (c.uncached_control-2.ensures.stream.1 i) in
+    let at : (s : g.row.S.Denot) (a : g.row.A.Denot) (b : g.row.B.Denot) → ControlAt = λ s a b. control_at g.D.Disk g.S.Shelf s (stream_of g.A.Source g.B.Sink a b) in
+    let started : at c.in-Ok-cache_control.control.shelf.shelf c.in-Ok-cache_control.control.source c.in-Ok-cache_control.control.sink ≡ at c.args.control.shelf c.args.control.source c.args.control.sink =
+    λ i. at (was.0 i) (was.1 i) (was.2 i) in
+    let back = c.uncached_control-2.ensures in
+    let ended : at c.uncached_control-2.result.shelf c.uncached_control-2.result.source c.uncached_control-2.result.sink ≡ at inner.shelf.shelf inner.source inner.sink =
+    λ i. at (back.shelf i) (back.stream.0 i) (back.stream.1 i) in
     subst
-    (λ (x : ControlStart). Exports w c.args.base.value tells faults told counted c.args.pairs.items c.uncached.new.plain.items c.args.connections x (stream_of g.A.Source g.B.Sink c.uncached_control-2.result.source c.uncached_control-2.result.sink) c.export_named-image.result.4 (seen g.D.Disk c.export_named-image.result.0) c.export_named-image.result.2)
+    (λ (x : ControlAt). Exports w c.args.base.value tells faults told counted c.args.pairs.items c.uncached.new.plain.items c.args.connections x (at c.uncached_control-2.result.shelf c.uncached_control-2.result.source c.uncached_control-2.result.sink) c.export_named-image.result.4 (seen g.D.Disk c.export_named-image.result.0) c.export_named-image.result.2)
     started
     (subst
-    (λ (x : Stream). Exports w c.args.base.value tells faults told counted c.args.pairs.items c.uncached.new.plain.items c.args.connections (start c.in-Ok-cache_control.control.shelf.shelf c.in-Ok-cache_control.control.source c.in-Ok-cache_control.control.sink) x c.export_named-image.result.4 (seen g.D.Disk c.export_named-image.result.0) c.export_named-image.result.2)
+    (λ (x : ControlAt). Exports w c.args.base.value tells faults told counted c.args.pairs.items c.uncached.new.plain.items c.args.connections (at c.in-Ok-cache_control.control.shelf.shelf c.in-Ok-cache_control.control.source c.in-Ok-cache_control.control.sink) x c.export_named-image.result.4 (seen g.D.Disk c.export_named-image.result.0) c.export_named-image.result.2)
     (sym ended)
     (exports-back bare w c.args.base.value tells faults told counted c.args.connections
-    (start c.in-Ok-cache_control.control.shelf.shelf c.in-Ok-cache_control.control.source c.in-Ok-cache_control.control.sink) (stream_of g.A.Source g.B.Sink inner.source inner.sink) c.export_named-image.result.4
+    (at c.in-Ok-cache_control.control.shelf.shelf c.in-Ok-cache_control.control.source c.in-Ok-cache_control.control.sink) (at inner.shelf.shelf inner.source inner.sink) c.export_named-image.result.4
     c.cache_all.new.cached.items c.export_named-image.result.1.items c.args.pairs.items c.uncached.new.plain.items (seen g.D.Disk c.export_named-image.result.0) c.export_named-image.result.2
     c.export_named-image.ensures.count c.if-not-cache_all.ensures.all.0
     (c.uncached.ensures.items ∙ ap (λ ps. ps ++ map bare c.export_named-image.result.1.items) c.if-not-cache_all.ensures.all.1) c.export_named-image.ensures.exports))

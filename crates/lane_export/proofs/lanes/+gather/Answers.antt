@@ -23,8 +23,10 @@ meet-requires g n c = record {
 
 pub returns-clause-each : goal.returns-clause-each
 returns-clause-each g n c =
-    gathered-joined (λ (lane : Lane g.row.D.Denot g.row.S.Denot g.row.L.Denot g.row.R.Denot g.S.Shelf). seat_port (g.D.Disk.tells && is_some (g.S.Shelf.files lane.reader.layers.shelf)) lane.reader.layers.image.now lane.reader.layers.seat (g.S.Shelf.faults lane.reader.layers.shelf)) (λ (lane : Lane g.row.D.Denot g.row.S.Denot g.row.L.Denot g.row.R.Denot g.S.Shelf). lane.listener) (λ (number : ℕ) (pair : g.row.S.Denot × g.row.L.Denot). first_port (g.D.Disk.tells && is_some (g.S.Shelf.files pair.0)) c.args.image.now number (g.S.Shelf.faults pair.0)) (λ (pair : g.row.S.Denot × g.row.L.Denot). pair.1) c.meet.new.to.seen c.gather-failed.new.control.seen c.args.lanes.items c.pop.new.self.items c.push_reserved.new.self.items c.gather-failed.new.seats.items c.in-Some.lane c.into_parts-seat.result.0 c.meet.new.from
-    c.in-Some.ensures.items c.push_reserved.ensures.items c.meet.ensures.from c.gather-failed.ensures.each c.meet.ensures.later.seen _ c.into_parts-seat.ensures.seat c.meet.ensures.seen
+    let lane : _ → g.row.L.Denot = λ (lane : Lane g.row.D.Denot g.row.S.Denot g.row.L.Denot g.row.R.Denot g.S.Shelf). lane.listener in
+    let many : length c.gather-failed.new.pairs.items ≡ length c.pop.new.self.items = same-length (λ (pair : g.row.S.Denot × g.row.L.Denot). pair.1) lane c.gather-failed.new.pairs.items c.pop.new.self.items c.gather-failed.ensures.listeners in
+    gathered-joined (λ (lane : Lane g.row.D.Denot g.row.S.Denot g.row.L.Denot g.row.R.Denot g.S.Shelf). seat_port (g.D.Disk.tells && is_some (g.S.Shelf.files lane.reader.layers.shelf)) lane.reader.layers.image.now lane.reader.layers.seat (g.S.Shelf.faults lane.reader.layers.shelf)) (λ (lane : Lane g.row.D.Denot g.row.S.Denot g.row.L.Denot g.row.R.Denot g.S.Shelf). lane.listener) (λ (number : ℕ) (pair : g.row.S.Denot × g.row.L.Denot). first_port (g.D.Disk.tells && is_some (g.S.Shelf.files pair.0)) c.args.image.now number (g.S.Shelf.faults pair.0)) (λ (pair : g.row.S.Denot × g.row.L.Denot). pair.1) (λ (pair : g.row.S.Denot × g.row.L.Denot). g.S.Shelf.faults pair.0) c.meet.new.to.seen c.gather-failed.new.control.seen c.args.lanes.items c.pop.new.self.items c.push_reserved.new.self.items c.gather-failed.new.seats.items c.push_reserved-2.new.self.items c.gather-failed.new.pairs.items c.in-Some.lane c.into_parts-seat.result.0 c.meet.new.from (c.into_parts-seat.result.1, c.in-Some.lane.listener)
+    c.in-Some.ensures.items c.push_reserved.ensures.items c.push_reserved-2.ensures.items c.meet.ensures.from c.gather-failed.ensures.each c.meet.ensures.later.seen many c.into_parts-seat.ensures.seat c.meet.ensures.seen
 
 pub returns-clause-later : goal.returns-clause-later
 returns-clause-later g n c = later-trans c.args.control.now c.gather-failed.new.control c.meet.new.to c.gather-failed.ensures.later c.meet.ensures.later

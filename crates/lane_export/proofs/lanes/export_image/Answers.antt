@@ -7,7 +7,7 @@ use Rattle.image_core.specs.Seen.{seen, StandsFor}
 use Rattle.shared_image.specs.Turns.{seat_port}
 use Rattle.lane_serve.specs.declared.lane.LaneEnd.TheVariants.{NoMore}
 use Rattle.lane_export.specs.declared.parts.Control.{Control}
-use Rattle.lane_export.specs.Lanes.{first_port, WhyEnded, ControlDone, ends_at, stream_of}
+use Rattle.lane_export.specs.Lanes.{first_port, WhyEnded, ControlDone, ends_at, control_at, stream_of}
 use Rattle.lane_export.proofs.Rows.{all-front, first-last}
 use Rattle.lane_export.proofs.Composed.{first-of, seats-from, lane-in, why-ended, control-served, closed-empty, exports-served}
 use Rattle.lane_export.proofs.Shown.{shown-left, shown-holds}
@@ -37,7 +37,7 @@ close-image-requires g c =
     let last = last_seat id _ c.in-Ok.made.1 rest c.in-Some.seat c.in-Ok.ensures.seats.0 (sym c.into_vec-seats.ensures ∙ c.in-Some.ensures.items) in
     let r = c.in-Ok-serve_in_lanes.ensures in
     let seats = c.in-Ok-serve_in_lanes.seats.items in
-    let are = seats-from id (record { left = g.L.A.Source.left; reads = g.L.A.Source.faults; written = g.L.B.Sink.written; writes = g.L.B.Sink.faults; takes = false; export = c.args.export.now }) c.args.pairs.items c.in-Ok-serve_in_lanes.pairs.items (λ (k : ℕ) (pair : g.row.S.Denot × g.row.L.Denot). record { port = first_port (g.D.Disk.tells && is_some (g.S.Shelf.files pair.0)) c.in-Ok.made.0 k (g.S.Shelf.faults pair.0); told = g.L.Listener.told pair.1; faults = g.L.Listener.faults pair.1 }) (λ (pair : g.row.S.Denot × g.row.L.Denot). g.L.Listener.told pair.1) (λ (pair : g.row.S.Denot × g.row.L.Denot). g.L.Listener.faults pair.1) seats c.args.connections (λ k. get_or r.lanes.0 k NoMore) r.count.0 (λ k e. refl) (λ k e. refl) (λ k e f s lt. r.lanes.3 k e f s NoMore lt) in
+    let are = seats-from id (record { left = g.L.A.Source.left; reads = g.L.A.Source.faults; written = g.L.B.Sink.written; writes = g.L.B.Sink.faults; takes = false; export = c.args.export.now }) c.args.pairs.items c.in-Ok-serve_in_lanes.pairs.items (λ (k : ℕ) (pair : g.row.S.Denot × g.row.L.Denot). record { port = first_port (g.D.Disk.tells && is_some (g.S.Shelf.files pair.0)) c.in-Ok.made.0 k (g.S.Shelf.faults pair.0); told = g.L.Listener.told pair.1; faults = g.L.Listener.faults pair.1 }) (λ (pair : g.row.S.Denot × g.row.L.Denot). g.L.Listener.told pair.1) (λ (pair : g.row.S.Denot × g.row.L.Denot). g.L.Listener.faults pair.1) (λ (pair : g.row.S.Denot × g.row.L.Denot). g.S.Shelf.faults pair.0) seats c.args.connections (λ k. get_or r.lanes.0 k NoMore) r.count.0 (λ k e. refl) (λ k e. refl) (λ k e f s lt. r.lanes.3 k e f s NoMore lt) in
     let longer : length c.in-Ok.made.1 ≡ length rest + 1 = ap (λ (l : List (Place Act)). length l) (sym c.into_vec-seats.ensures ∙ c.in-Some.ensures.items) ∙ length-append rest (c.in-Some.seat ∷ []) in
     let all = c.in-Ok.ensures.seats.0.all in
     let made = c.in-Ok.ensures.lock.2 in
@@ -66,7 +66,7 @@ returns-in-Ok-serve_in_lanes-clause-exports g c =
     let last = last_seat id _ c.in-Ok.made.1 rest c.in-Some.seat c.in-Ok.ensures.seats.0 (sym c.into_vec-seats.ensures ∙ c.in-Some.ensures.items) in
     let r = c.in-Ok-serve_in_lanes.ensures in
     let seats = c.in-Ok-serve_in_lanes.seats.items in
-    let are = seats-from id (record { left = g.L.A.Source.left; reads = g.L.A.Source.faults; written = g.L.B.Sink.written; writes = g.L.B.Sink.faults; takes = false; export = c.args.export.now }) c.args.pairs.items c.in-Ok-serve_in_lanes.pairs.items (λ (k : ℕ) (pair : g.row.S.Denot × g.row.L.Denot). record { port = first_port (g.D.Disk.tells && is_some (g.S.Shelf.files pair.0)) c.in-Ok.made.0 k (g.S.Shelf.faults pair.0); told = g.L.Listener.told pair.1; faults = g.L.Listener.faults pair.1 }) (λ (pair : g.row.S.Denot × g.row.L.Denot). g.L.Listener.told pair.1) (λ (pair : g.row.S.Denot × g.row.L.Denot). g.L.Listener.faults pair.1) seats c.args.connections (λ k. get_or r.lanes.0 k NoMore) r.count.0 (λ k e. refl) (λ k e. refl) (λ k e f s lt. r.lanes.3 k e f s NoMore lt) in
+    let are = seats-from id (record { left = g.L.A.Source.left; reads = g.L.A.Source.faults; written = g.L.B.Sink.written; writes = g.L.B.Sink.faults; takes = false; export = c.args.export.now }) c.args.pairs.items c.in-Ok-serve_in_lanes.pairs.items (λ (k : ℕ) (pair : g.row.S.Denot × g.row.L.Denot). record { port = first_port (g.D.Disk.tells && is_some (g.S.Shelf.files pair.0)) c.in-Ok.made.0 k (g.S.Shelf.faults pair.0); told = g.L.Listener.told pair.1; faults = g.L.Listener.faults pair.1 }) (λ (pair : g.row.S.Denot × g.row.L.Denot). g.L.Listener.told pair.1) (λ (pair : g.row.S.Denot × g.row.L.Denot). g.L.Listener.faults pair.1) (λ (pair : g.row.S.Denot × g.row.L.Denot). g.S.Shelf.faults pair.0) seats c.args.connections (λ k. get_or r.lanes.0 k NoMore) r.count.0 (λ k e. refl) (λ k e. refl) (λ k e f s lt. r.lanes.3 k e f s NoMore lt) in
     let longer : length c.in-Ok.made.1 ≡ length rest + 1 = ap (λ (l : List (Place Act)). length l) (sym c.into_vec-seats.ensures ∙ c.in-Some.ensures.items) ∙ length-append rest (c.in-Some.seat ∷ []) in
     let all = c.in-Ok.ensures.seats.0.all in
     let made = c.in-Ok.ensures.lock.2 in
@@ -82,7 +82,7 @@ returns-in-Ok-serve_in_lanes-clause-exports g c =
     let tells = g.D.Disk.tells && is_some (g.S.Shelf.files c.args.control.shelf) in
     let faults = g.S.Shelf.faults c.args.control.shelf in
     let stream = stream_of g.A.Source g.B.Sink c.args.control.source c.args.control.sink in
-    let now = stream_of g.A.Source g.B.Sink c.in-Ok-serve_in_lanes.control.source c.in-Ok-serve_in_lanes.control.sink in
+    let now = control_at g.D.Disk g.S.Shelf c.in-Ok-serve_in_lanes.control.shelf (stream_of g.A.Source g.B.Sink c.in-Ok-serve_in_lanes.control.source c.in-Ok-serve_in_lanes.control.sink) in
     let seat_is : c.in-Some.seat ≡ place id (length c.args.pairs.items) [] false =
     first-last id c.in-Ok.made.1 rest c.in-Some.seat (sym c.into_vec-seats.ensures ∙ c.in-Some.ensures.items) (first-of id _ c.in-Ok.made.1 c.in-Ok.ensures.seats.0 c.in-Ok.ensures.seats.1)
     ∙ ap (λ (m : ℕ). place id m [] false) (rest_many ∙ many) in
@@ -103,7 +103,7 @@ returns-in-Ok-serve_in_lanes-clause-exports g c =
       stands = stands;
       ends = r.lanes.0;
       many = r.lanes.2;
-      lanes = λ k e f d lt. lane-in seats c.flush-last.new.seat h.history ish k c.flush-last.new.seat (record { left = g.L.A.Source.left; reads = g.L.A.Source.faults; written = g.L.B.Sink.written; writes = g.L.B.Sink.faults; takes = false; export = c.args.export.now }) _ _ _ c.args.connections _ (omega (arith, lt, many)) refl (r.lanes.3 k e f c.flush-last.new.seat d lt);
+      lanes = λ k e f d lt. lane-in seats c.flush-last.new.seat h.history ish k c.flush-last.new.seat (record { left = g.L.A.Source.left; reads = g.L.A.Source.faults; written = g.L.B.Sink.written; writes = g.L.B.Sink.faults; takes = false; export = c.args.export.now }) _ _ _ _ c.args.connections _ (omega (arith, lt, many)) refl (r.lanes.3 k e f c.flush-last.new.seat d lt);
       others = λ k lt. ish.no_others k (omega (arith, lt, long, many));
       control_ended = c.in-Ok-serve_in_lanes.end;
       told_end = refl;
@@ -129,6 +129,6 @@ returns-in-Err-serve_in_lanes-clause-exports g c =
     (subst (λ (l : List (Place Act)). IsHistory l h.history) all h.is) in (
       subst (λ (l : History). StandsFor (seen g.D.Disk c.close-image-in-Err-serve_in_lanes.result) g.N.Named.it l) none (rw c.in-Ok.ensures.lock.0 at h.stands),
       u.2,
-      ap (λ (x : Control g.row.S.Denot g.row.A.Denot g.row.B.Denot). stream_of g.A.Source g.B.Sink x.source x.sink) u.4,
+      ap (λ (x : Control g.row.S.Denot g.row.A.Denot g.row.B.Denot). control_at g.D.Disk g.S.Shelf x.shelf (stream_of g.A.Source g.B.Sink x.source x.sink)) u.4,
       refl,
     )

@@ -31,7 +31,7 @@ returns-clause-count g c =
     let a = c.as_mut_slice.ensures.len in let o = c.deal.new.lanes.ok in let n = c.deal.ensures.count in
     let same = with_items_is c.deal.new.lanes c.run_all.new.lanes (c.run_all.auto.lanes ∙ c.as_mut_slice.ensures.len) in
     let r = c.run_all.auto.lanes in
-    let both = counts-gathered (λ (lane : Lane g.row.D.Denot g.row.S.Denot g.row.L.Denot g.row.R.Denot g.S.Shelf). seat_port (g.D.Disk.tells && is_some (g.S.Shelf.files lane.reader.layers.shelf)) lane.reader.layers.image.now lane.reader.layers.seat (g.S.Shelf.faults lane.reader.layers.shelf)) (λ (lane : Lane g.row.D.Denot g.row.S.Denot g.row.L.Denot g.row.R.Denot g.S.Shelf). lane.listener) (λ (lane : Lane g.row.D.Denot g.row.S.Denot g.row.L.Denot g.row.R.Denot g.S.Shelf). lane.end) (λ (number : ℕ) (pair : g.row.S.Denot × g.row.L.Denot). first_port (g.D.Disk.tells && is_some (g.S.Shelf.files pair.0)) c.args.image.now number (g.S.Shelf.faults pair.0)) (λ (pair : g.row.S.Denot × g.row.L.Denot). pair.1) g.L.Listener.told g.L.Listener.faults c.gather-failed.new.control.seen _ c.run_all.new.lanes c.gather-failed.new.seats.items c.gather-failed.new.pairs.items c.gather-failed.ensures.each c.gather-failed.ensures.listeners same in
+    let both = counts-gathered (λ (lane : Lane g.row.D.Denot g.row.S.Denot g.row.L.Denot g.row.R.Denot g.S.Shelf). seat_port (g.D.Disk.tells && is_some (g.S.Shelf.files lane.reader.layers.shelf)) lane.reader.layers.image.now lane.reader.layers.seat (g.S.Shelf.faults lane.reader.layers.shelf)) (λ (lane : Lane g.row.D.Denot g.row.S.Denot g.row.L.Denot g.row.R.Denot g.S.Shelf). lane.listener) (λ (lane : Lane g.row.D.Denot g.row.S.Denot g.row.L.Denot g.row.R.Denot g.S.Shelf). lane.end) (λ (number : ℕ) (pair : g.row.S.Denot × g.row.L.Denot). first_port (g.D.Disk.tells && is_some (g.S.Shelf.files pair.0)) c.args.image.now number (g.S.Shelf.faults pair.0)) (λ (pair : g.row.S.Denot × g.row.L.Denot). pair.1) g.L.Listener.told g.L.Listener.faults (λ (pair : g.row.S.Denot × g.row.L.Denot). g.S.Shelf.faults pair.0) c.gather-failed.new.control.seen _ c.run_all.new.lanes c.gather-failed.new.seats.items c.gather-failed.new.pairs.items c.gather-failed.ensures.each c.gather-failed.ensures.listeners same in
     let one = both.0 in let two = both.1 in
     let cap = c.gather-failed.ensures.capacity.0 in let room = c.in-Ok-with_capacity.ensures.capacity in let count = c.len-count.ensures in let ok = c.args.pairs.ok in
     (omega (arith, a, o, n, r, one), omega (arith, a, o, n, r, two), omega (arith, cap, room, count, ok))
@@ -45,11 +45,11 @@ returns-clause-lanes g c =
       map end c.run_all.new.lanes,
       c.gather-failed.ensures.failed ∙ ap (λ ls. any_failed (map end ls)) same,
       (let l = length-map c.run_all.new.lanes end in let r = c.run_all.auto.lanes in omega (arith, l, r, many)),
-      (λ k e f s d lt. lanes-done (λ (lane : Lane g.row.D.Denot g.row.S.Denot g.row.L.Denot g.row.R.Denot g.S.Shelf). seat_port (g.D.Disk.tells && is_some (g.S.Shelf.files lane.reader.layers.shelf)) lane.reader.layers.image.now lane.reader.layers.seat (g.S.Shelf.faults lane.reader.layers.shelf)) (λ (lane : Lane g.row.D.Denot g.row.S.Denot g.row.L.Denot g.row.R.Denot g.S.Shelf). lane.listener) (λ (lane : Lane g.row.D.Denot g.row.S.Denot g.row.L.Denot g.row.R.Denot g.S.Shelf). lane.end) (λ (number : ℕ) (pair : g.row.S.Denot × g.row.L.Denot). first_port (g.D.Disk.tells && is_some (g.S.Shelf.files pair.0)) c.args.image.now number (g.S.Shelf.faults pair.0)) (λ (pair : g.row.S.Denot × g.row.L.Denot). pair.1) g.L.Listener.told g.L.Listener.faults _ c.args.connections c.gather-failed.new.control.seen c.args.pairs.items c.gather-failed.new.pairs.items c.as_mut_slice.result.now c.run_all.new.lanes c.gather-failed.new.seats.items
+      (λ k e f s d lt. lanes-done (λ (lane : Lane g.row.D.Denot g.row.S.Denot g.row.L.Denot g.row.R.Denot g.S.Shelf). seat_port (g.D.Disk.tells && is_some (g.S.Shelf.files lane.reader.layers.shelf)) lane.reader.layers.image.now lane.reader.layers.seat (g.S.Shelf.faults lane.reader.layers.shelf)) (λ (lane : Lane g.row.D.Denot g.row.S.Denot g.row.L.Denot g.row.R.Denot g.S.Shelf). lane.listener) (λ (lane : Lane g.row.D.Denot g.row.S.Denot g.row.L.Denot g.row.R.Denot g.S.Shelf). lane.end) (λ (number : ℕ) (pair : g.row.S.Denot × g.row.L.Denot). first_port (g.D.Disk.tells && is_some (g.S.Shelf.files pair.0)) c.args.image.now number (g.S.Shelf.faults pair.0)) (λ (pair : g.row.S.Denot × g.row.L.Denot). pair.1) g.L.Listener.told g.L.Listener.faults (λ (pair : g.row.S.Denot × g.row.L.Denot). g.S.Shelf.faults pair.0) _ c.args.connections c.gather-failed.new.control.seen c.args.pairs.items c.gather-failed.new.pairs.items c.as_mut_slice.result.now c.run_all.new.lanes c.gather-failed.new.seats.items
           many c.run_all.auto.lanes
           (subst (AreDealt (λ (lane : Lane g.row.D.Denot g.row.S.Denot g.row.L.Denot g.row.R.Denot g.S.Shelf). seat_port (g.D.Disk.tells && is_some (g.S.Shelf.files lane.reader.layers.shelf)) lane.reader.layers.image.now lane.reader.layers.seat (g.S.Shelf.faults lane.reader.layers.shelf)) (λ (lane : Lane g.row.D.Denot g.row.S.Denot g.row.L.Denot g.row.R.Denot g.S.Shelf). lane.listener) (λ (number : ℕ) (pair : g.row.S.Denot × g.row.L.Denot). first_port (g.D.Disk.tells && is_some (g.S.Shelf.files pair.0)) c.args.image.now number (g.S.Shelf.faults pair.0)) (λ (pair : g.row.S.Denot × g.row.L.Denot). pair.1) c.args.pairs.items) (sym c.as_mut_slice.ensures.value) c.deal.ensures.ports)
           (λ j d inside. c.run_all.ensures.lanes j d inside)
-          (subst (λ (ls : List (Lane g.row.D.Denot g.row.S.Denot g.row.L.Denot g.row.R.Denot g.S.Shelf)). AreGathered (λ (lane : Lane g.row.D.Denot g.row.S.Denot g.row.L.Denot g.row.R.Denot g.S.Shelf). seat_port (g.D.Disk.tells && is_some (g.S.Shelf.files lane.reader.layers.shelf)) lane.reader.layers.image.now lane.reader.layers.seat (g.S.Shelf.faults lane.reader.layers.shelf)) c.gather-failed.new.control.seen ls c.gather-failed.new.seats.items) same c.gather-failed.ensures.each)
+          (subst (λ (ls : List (Lane g.row.D.Denot g.row.S.Denot g.row.L.Denot g.row.R.Denot g.S.Shelf)). AreGathered (λ (lane : Lane g.row.D.Denot g.row.S.Denot g.row.L.Denot g.row.R.Denot g.S.Shelf). seat_port (g.D.Disk.tells && is_some (g.S.Shelf.files lane.reader.layers.shelf)) lane.reader.layers.image.now lane.reader.layers.seat (g.S.Shelf.faults lane.reader.layers.shelf)) (λ (pair : g.row.S.Denot × g.row.L.Denot). g.S.Shelf.faults pair.0) c.gather-failed.new.control.seen ls c.gather-failed.new.seats.items c.gather-failed.new.pairs.items) same c.gather-failed.ensures.each)
           (c.gather-failed.ensures.listeners ∙ ap (map (λ (lane : Lane g.row.D.Denot g.row.S.Denot g.row.L.Denot g.row.R.Denot g.S.Shelf). lane.listener)) same) k e f s d lt),
     )
 
@@ -57,4 +57,4 @@ pub returns-clause-served : goal.returns-clause-served
 returns-clause-served g c =
     let other = c.run_all.ensures.other in
     done-from _ _ _ _ _ _ _ c.control_back-seat.result.0 c.gather-failed.new.control c.run_all.new.other.end c.control_back-seat.result.2 c.control_lane-beside.ensures.port c.control_lane-beside.ensures.stream
-    other.0 other.2 c.control_back-seat.ensures.seat c.control_back-seat.ensures.stream c.control_back-seat.ensures.end c.gather-failed.ensures.later
+    other.0 other.2 c.control_back-seat.ensures.seat c.control_back-seat.ensures.faults c.control_back-seat.ensures.stream c.control_back-seat.ensures.end c.gather-failed.ensures.later

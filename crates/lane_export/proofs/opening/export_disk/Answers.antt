@@ -1,6 +1,6 @@
 use Rattle.std.proofs.Common.{◌∙◌, ◌&&◌, ℕ, Bool, inl, inr, is_some, false, refl, sym, subst}
 use Rattle.lane_serve.specs.Lanes.{Ways}
-use Rattle.lane_export.specs.Lanes.{Exports, ControlStart, stream_of}
+use Rattle.lane_export.specs.Lanes.{Exports, ControlAt, control_at, stream_of}
 use Rattle.image_core.specs.Seen.{seen, with_disk}
 use Rattle.lane_export.proofs.Mounting.{opened-now, quiet-seen, found-same, lies-before, told-lowers}
 use Rattle.lane_export.proofs.Complete.{complete}
@@ -36,7 +36,7 @@ returns-clause-exports g c =
     let faults : g.row.S.Denot × g.row.L.Denot → ℕ = λ pair. g.S.Shelf.faults pair.0 in
     let told = λ (pair : g.row.S.Denot × g.row.L.Denot). g.L.Listener.told pair.1 in
     let counted : g.row.S.Denot × g.row.L.Denot → ℕ = λ pair. g.L.Listener.faults pair.1 in
-    let now = stream_of g.A.Source g.B.Sink c.export_cached-image.result.3.source c.export_cached-image.result.3.sink in
+    let now = control_at g.D.Disk g.S.Shelf c.export_cached-image.result.3.shelf (stream_of g.A.Source g.B.Sink c.export_cached-image.result.3.source c.export_cached-image.result.3.sink) in
     inr (record {
       base = base;
       lies = lies-before (g.S.Shelf.files c.args.control.shelf) (g.S.Shelf.files c.open_image.new.shelf) (g.S.Shelf.count c.args.control.shelf) (g.S.Shelf.count c.open_image.new.shelf) base
@@ -49,7 +49,7 @@ returns-clause-exports g c =
       code_is = c.code_of.ensures;
       many = c.export_cached-image.ensures.count;
       exports = subst
-          (λ (x : ControlStart). Exports w base tells faults told counted c.args.pairs.items c.export_cached-image.result.1.items c.args.connections x now c.export_cached-image.result.4 (with_disk g.D.Disk c.into_disk.result image.parts) c.export_cached-image.result.2)
+          (λ (x : ControlAt). Exports w base tells faults told counted c.args.pairs.items c.export_cached-image.result.1.items c.args.connections x now c.export_cached-image.result.4 (with_disk g.D.Disk c.into_disk.result image.parts) c.export_cached-image.result.2)
           (λ i. record { tells = g.D.Disk.tells && is_some (same.files i); shelf = c.in-Ok.ensures.shelf_cause i; stream = stream_of g.A.Source g.B.Sink c.args.control.source c.args.control.sink })
           (subst
           (λ (disk : g.row.D.Denot). Exports w base tells faults told counted c.args.pairs.items c.export_cached-image.result.1.items c.args.connections
