@@ -4,6 +4,7 @@ use Rattle.std.specs.List.{AllZip}
 use Rattle.block_disk.specs.declared.disk.Disk as disks
 use Rattle.block_disk.specs.Claims.{Quiet}
 use Rattle.layer_shelf.specs.declared.shelves.Shelf as shelves
+use Rattle.layer_shelf.specs.Shelves.{SameFiles}
 use Rattle.byte_ports.specs.declared.ports.Source as sources
 use Rattle.byte_ports.specs.declared.ports.Sink as sinks
 use Rattle.flat_image.specs.declared.base.Base.{Base}
@@ -56,11 +57,12 @@ pub record HasNoImage {D S L : Type 0} (d : disks.Ghosts D) (s : shelves.Ghosts 
   pub cause : OpenCause (s.files old.shelf) (s.count old.shelf) (s.faults old.shelf) (s.faults new.shelf) (disk_port d old.disk) (disk_port d new.disk) refusal
   pub quiet : Quiet (d.state old.disk) (d.state new.disk)
   pub same : new.lanes ≡ old.lanes
+  pub shelf_same : SameFiles s.files s.count old.shelf new.shelf
   pub stream_same : new.stream ≡ old.stream
   pub unserved : ended ≡ None
 
 -- An image was opened, and its lanes and its control were served, or there was no memory for that. Of the base the disk's faults
--- are those that it had counted before.
+-- are those that it had counted before. The shelves that are given back have the files that were handed in, told or not.
 pub record HasRun {D S L A B : Type 0} (w : Ways A B) (d : disks.Ghosts D) (s : shelves.Ghosts S) (told : L → Option (Listening A B Served)) (faults : L → ℕ)
     (old new : Moment D S L) (connections : ℕ) (ended : Option ControlEnd) (code : ℕ) : Type 0 where
   pub base : Base
@@ -71,6 +73,8 @@ pub record HasRun {D S L A B : Type 0} (w : Ways A B) (d : disks.Ghosts D) (s : 
   pub end : ExportEnd
   pub code_is : code ≡ end_code end
   pub many : length new.lanes ≡ length old.lanes
+  pub shelf_same : SameFiles s.files s.count old.shelf new.shelf
+  pub shelves_same : HaveSameFiles s.files s.count new.shelf new.lanes
   pub exports : ExportsLanes w d s told faults base old.lanes new.lanes connections (control_at d s old.shelf old.stream) (control_at d s new.shelf new.stream) ended (with_disk d new.disk parts) end
 
 -- an export of the image on a disk over shelves

@@ -4,11 +4,14 @@ ghost use Rattle.turn_lock.specs.Locks.{AreSeats};
 ghost use Rattle.image_core.specs.Seen.{seen, StandsFor};
 ghost use Rattle.std.specs.Option.{ForSome};
 ghost use Rattle.lane_serve.specs.Listeners.{IsFresh};
+ghost use Rattle.layer_shelf.specs.Shelves.{SameFiles};
+ghost use Rattle.lane_export.specs.Caching.{HasFiles};
 ghost use Rattle.lane_export.specs.Exporting.{HaveSameFiles};
 ghost use Rattle.lane_export.specs.Lanes.{ExportsLanes, control_at, stream_of, ways_of};
 
 use crate::caching::{cache_all, cache_control, start_cache, uncached, uncached_control};
 use crate::export_end::ExportEnd;
+use crate::kept_shelf::Files;
 use crate::lanes::export_image;
 use crate::parts::Control;
 use block_cache::{CacheSeat, SharedCache};
@@ -71,8 +74,9 @@ fn export_named<
     export_image::<N, D, S, L, A, B, R>(rt, alloc, export, connections, image, pairs, control)
 }
 
-// Serves all lanes and the control of an image, with this cache round their shelves.
+// Serves all lanes and the control of an image, with this cache round their shelves, whose files `F` names.
 fn export_with<
+    F: Files + Send + Drop,
     D: Disk + Send + Drop,
     S: Shelf + Send + Drop,
     L: Listener<E = Served> + Send + Drop,
@@ -100,14 +104,17 @@ fn export_with<
     requires stands { StandsFor (seen D.Disk image) base.value [] }
     requires few { length pairs.items ≤ 16 }
     requires seats { AreSeats cache.now.id (length pairs.items + 1) seats.items }
-    requires files { All (λ pair. cache.now.base.files ≡ S.files pair.0) pairs.items }
-    requires control_files { cache.now.base.files ≡ S.files control.shelf }
+    requires cache { cache.now.base.files ≡ F.told }
+    requires files { All (λ pair. HasFiles S.Shelf F.told F.count pair.0) pairs.items }
+    requires control_files { HasFiles S.Shelf F.told F.count control.shelf }
     requires shelves { All (λ pair. (S.count pair.0 ≡ length base.value.lowers)
         × ForSome (S.files pair.0) (λ files. files ≡ base.value.lowers)) pairs.items }
     requires control_count { S.count control.shelf ≡ length base.value.lowers }
     requires control_told { ForSome (S.files control.shelf) (λ files. files ≡ base.value.lowers) }
     requires fresh { All (λ pair. IsFresh (L.told pair.1)) pairs.items }
     ensures count { length result.1.items ≡ length pairs.items }
+    ensures files { All (λ pair. HasFiles S.Shelf F.told F.count pair.0) result.1.items }
+    ensures control_files { HasFiles S.Shelf F.told F.count result.3.shelf }
     ensures exports { ExportsLanes
         (ways_of L.A.Source L.B.Sink export.entry.now) D.Disk S.Shelf L.told L.faults base.value pairs.items
         result.1.items connections
@@ -126,7 +133,7 @@ fn export_with<
     let Some(seat) = seats.pop() else {
         unreachable!()
     };
-    let control = match cache_control(rt, alloc, cache, seat, control) {
+    let control = match cache_control::<S, F, _, _, _>(rt, alloc, cache, seat, control) {
         Ok(control) => control,
         Err(control) => return (image, pairs, ExportEnd::Memory, control, None),
     };
@@ -189,6 +196,8 @@ pub(crate) fn export_cached<
     requires control_told { ForSome (S.files control.shelf) (λ files. files ≡ base.value.lowers) }
     requires fresh { All (λ pair. IsFresh (L.told pair.1)) pairs.items }
     ensures count { length result.1.items ≡ length pairs.items }
+    ensures files { HaveSameFiles S.files S.count result.3.shelf result.1.items }
+    ensures control_files { SameFiles S.files S.count control.shelf result.3.shelf }
     ensures exports { ExportsLanes
         (ways_of L.A.Source L.B.Sink export.entry.now) D.Disk S.Shelf L.told L.faults base.value pairs.items
         result.1.items connections
@@ -198,7 +207,7 @@ pub(crate) fn export_cached<
 {
     let count = pairs.len();
     match start_cache::<Brand, S>(alloc, blocks, count as u32 + 1, &control.shelf) {
-        Ok((cache, seats)) => export_with(
+        Ok((cache, seats)) => export_with::<Brand, _, _, _, _, _, _>(
             rt,
             alloc,
             export,

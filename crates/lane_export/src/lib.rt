@@ -7,6 +7,7 @@ mod caching;
 mod export_end;
 mod exporting;
 mod harbour;
+mod kept_shelf;
 mod lanes;
 mod opening;
 mod parts;

@@ -1,11 +1,11 @@
-use Rattle.std.proofs.Common.{map, ◌≡◌, ◌+◌, ◌∙◌, ◌&&◌, ◌++◌, ◌∷◌, [], ℕ, Bool, List, is_some, false, length, sym, ap, subst, arith, length-append}
+use Rattle.std.proofs.Common.{map, ◌≡◌, ◌+◌, ◌∙◌, ◌&&◌, ◌++◌, ◌∷◌, [], ℕ, Bool, List, All, is_some, false, length, sym, ap, subst, arith, length-append}
 use Rattle.std.specs.Option.{ForSome}
 use Rattle.lane_serve.specs.Listeners.{IsFresh}
 use Rattle.turn_lock.specs.Locks.{Place, AreSeats}
 use Rattle.turn_lock.proofs.Lists.{other_seats}
 use Rattle.block_cache.specs.declared.history.CacheAct.{CacheAct}
 use Rattle.image_core.specs.Seen.{seen}
-use Rattle.lane_export.specs.Caching.{bare}
+use Rattle.lane_export.specs.Caching.{HasFiles, bare}
 use Rattle.lane_serve.specs.Lanes.{Ways}
 use Rattle.lane_export.specs.Lanes.{ControlAt, control_at, stream_of, Exports}
 use Rattle.lane_export.proofs.Bare.{all-mapped, exports-back}
@@ -58,3 +58,12 @@ returns-clause-exports g c =
     c.cache_all.new.cached.items c.export_named-image.result.1.items c.args.pairs.items c.uncached.new.plain.items (seen g.D.Disk c.export_named-image.result.0) c.export_named-image.result.2
     c.export_named-image.ensures.count c.if-not-cache_all.ensures.all.0
     (c.uncached.ensures.items ∙ ap (λ ps. ps ++ map bare c.export_named-image.result.1.items) c.if-not-cache_all.ensures.all.1) c.export_named-image.ensures.exports))
+
+pub returns-clause-files : goal.returns-clause-files
+returns-clause-files g c =
+    subst (All (λ (pair : g.row.S.Denot × g.row.L.Denot). HasFiles g.S.Shelf g.F.Files.told g.F.Files.count pair.0))
+    (sym (c.uncached.ensures.items ∙ ap (λ ps. ps ++ map bare c.export_named-image.result.1.items) c.if-not-cache_all.ensures.all.1)) c.uncached.ensures.files
+
+pub returns-then-not-cache_all-clause-files : goal.returns-then-not-cache_all-clause-files
+returns-then-not-cache_all-clause-files g c =
+    subst (All (λ (pair : g.row.S.Denot × g.row.L.Denot). HasFiles g.S.Shelf g.F.Files.told g.F.Files.count pair.0)) (sym c.if-not-cache_all.ensures.all.0) c.requires.files

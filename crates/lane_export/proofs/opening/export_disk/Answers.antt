@@ -48,6 +48,8 @@ returns-clause-exports g c =
       end = c.export_cached-image.result.2;
       code_is = c.code_of.ensures;
       many = c.export_cached-image.ensures.count;
+      shelf_same = record { files = c.export_cached-image.ensures.control_files.files ∙ same.files; count = c.export_cached-image.ensures.control_files.count ∙ same.count };
+      shelves_same = c.export_cached-image.ensures.files;
       exports = subst
           (λ (x : ControlAt). Exports w base tells faults told counted c.args.pairs.items c.export_cached-image.result.1.items c.args.connections x now c.export_cached-image.result.4 (with_disk g.D.Disk c.into_disk.result image.parts) c.export_cached-image.result.2)
           (λ i. record { tells = g.D.Disk.tells && is_some (same.files i); shelf = c.in-Ok.ensures.shelf_cause i; stream = stream_of g.A.Source g.B.Sink c.args.control.source c.args.control.sink })
@@ -65,4 +67,4 @@ returns-clause-complete g c =
 pub returns-in-Err-clause-complete : goal.returns-in-Err-clause-complete
 returns-in-Err-clause-complete g c =
     complete _ g.D.Disk g.S.Shelf _ _ _ _ _ _ _ ((g.met.S.Shelf g.world.𝓛 g.world.𝓜 g.world.𝓡 ((λ s x. x), (λ x. x), (λ x. x), (λ x. x))).counted c.args.control.shelf)
-    (inl (record { refusal = c.in-Err.refusal; code_is = c.code.ensures; cause = c.in-Err.ensures.refused; quiet = c.in-Err.ensures.quiet; same = refl; stream_same = refl; unserved = refl }))
+    (inl (record { refusal = c.in-Err.refusal; code_is = c.code.ensures; cause = c.in-Err.ensures.refused; quiet = c.in-Err.ensures.quiet; same = refl; shelf_same = c.in-Err.ensures.same; stream_same = refl; unserved = refl }))
