@@ -2,9 +2,10 @@
 ghost use Rattle.std.specs.Prelude.{◌≡◌, ◌<◌, ◌≤◌, ◌^◌, IfSome};
 ghost use Rattle.seg_table.specs.Put.{Fits};
 
-use crate::seg_table_tests::{NOTHING, draw};
-use sector_extent::{Extent, Steps};
-use seg_table::{PlainTable, SegTable, What};
+use crate::seg_table_tests::{NOTHING, draw, part_of};
+use sector_extent::{Extent, Found, Memory, Steps};
+use seg_table::{PlainTable, SegTable, Segment, What};
+use std::alloc::Global;
 use std::marker::Brand;
 use std::process::Abort;
 use std::sync::ledger::{Blank, Ledger};
@@ -76,6 +77,86 @@ fn agree_on<L: Ledger>(
     }
 }
 
+// One of the two tables.
+#[derive(Clone, Copy)]
+enum Either<'a> {
+    Leaves(&'a SegTable),
+    Plain(&'a PlainTable),
+}
+
+fn find_five<L: Ledger>(
+    table: Either,
+    at: u64,
+    out: &mut [Segment; 5],
+    steps: &mut Steps<L>,
+) -> Found
+    requires { at < 4096 }
+    ensures { (result.pieces ≤ 5) × (result.until ≤ 4096) }
+{
+    let count = (SECTORS - at) as u32;
+    match table {
+        Either::Leaves(table) => table.find(at, count, out, steps),
+        Either::Plain(table) => table.find(at, count, out, steps),
+    }
+}
+
+// Sets the cells of a segment that are not set yet. Whether that is all of them.
+fn set_cells(cells: &mut [Option<What>], segment: &Segment) -> bool {
+    for number in 0..segment.extent.count {
+        match cells.get_mut(segment.extent.at.saturating_add(u64::from(number)) as usize) {
+            Some(cell) if cell.is_none() => *cell = Some(part_of(segment.what, number)),
+            _ => return false,
+        }
+    }
+    true
+}
+
+// The cells of all sectors as `find` gives them, five segments at a time.
+fn found_cells<L: Ledger>(
+    rt: &impl Abort,
+    alloc: Global,
+    table: Either,
+    blank: Blank,
+) -> Result<Vec<Option<What>>, Memory>
+    requires name { blank.name ≡ L.name }
+    requires parts { blank.parts ≡ L.parts }
+    requires some { 0 < blank.parts }
+{
+    let mut steps = Steps::<L>::new(blank);
+    let mut cells = vec![in alloc; None; 4096]?;
+    let mut out = [NOTHING; 5];
+    let mut from = 0;
+    for _ in 0..SECTORS {
+        if from >= SECTORS {
+            break;
+        }
+        let found = find_five(table, from, &mut out, &mut steps);
+        for segment in &out[..found.pieces] {
+            assert!(rt;
+                set_cells(cells.as_mut_slice(), segment),
+                "a cell from {from}"
+            );
+        }
+        from = found.until;
+    }
+    assert_eq!(rt; from, SECTORS);
+    Ok(cells)
+}
+
+// Whether both give the same cells.
+fn are_alike(
+    rt: &impl Abort,
+    alloc: Global,
+    table: &SegTable,
+    plain: &PlainTable,
+) -> Result<bool, Memory> {
+    let mut cells = Vec::new(alloc);
+    for table in [Either::Leaves(table), Either::Plain(plain)] {
+        cells.push(found_cells::<Brand>(rt, alloc, table, Blank::new(1))?)?;
+    }
+    Ok(cells.as_slice().first() == cells.as_slice().last())
+}
+
 #[test]
 fn random_puts_agree_with_the_plain_form(rt: HostRuntime) -> Result<(), Fail> {
     let mut table = SegTable::new(rt.alloc());
@@ -103,6 +184,12 @@ fn random_puts_agree_with_the_plain_form(rt: HostRuntime) -> Result<(), Fail> {
                 end - 1,
                 (end + 1).min(SECTORS),
                 Blank::new(1),
+            );
+        }
+        if number % 500 == 499 {
+            assert!(rt;
+                are_alike(&rt, rt.alloc(), &table, &plain)?,
+                "after put {number}"
             );
         }
     }

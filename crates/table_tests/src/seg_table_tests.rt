@@ -27,16 +27,21 @@ pub(crate) fn draw(state: &mut u64, below: u64) -> u64
     (*state >> 33) % below
 }
 
+// What the sector of that number in a segment has.
+pub(crate) fn part_of(what: What, number: u32) -> What {
+    match what {
+        What::Place(place) => What::Place(place.wrapping_add(u64::from(number))),
+        What::Zero => What::Zero,
+    }
+}
+
 // Sets the cells of a segment, one by one.
 fn paint(cells: &mut Cells, segment: &Segment) {
     let at = segment.extent.at as usize;
     let end = segment.extent.end() as usize;
     for number in at..end {
         if number < SECTORS {
-            cells[number] = Some(match segment.what {
-                What::Place(place) => What::Place(place.wrapping_add((number - at) as u64)),
-                What::Zero => What::Zero,
-            });
+            cells[number] = Some(part_of(segment.what, (number - at) as u32));
         }
     }
 }
