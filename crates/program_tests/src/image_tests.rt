@@ -80,6 +80,51 @@ fn an_image_is_made_once_and_grows(rt: HostRuntime) -> Result<(), Fail> {
     Ok(())
 }
 
+const DRAWN: [Step; 3] = [
+    (
+        "make 1 2",
+        &[],
+        0,
+        Said::Text(
+            "made acts 2 writes 2 zeros 0 flushes 0 commits 0 refused 0\n\
+             image sectors 4096 filled 9 sum 160256\n",
+        ),
+    ),
+    ("make 1 2", &[], 6, Said::Text("refused: image exists\n")),
+    ("read 1662 1", &[], 0, Said::Sectors(&[169])),
+];
+
+// The lines of many acts, as a flat list of sectors gives them. Of the last, 255 commits are made, and the others
+// are refused.
+const DRAWN_LONG: [Step; 1] = [(
+    "make 7 4000",
+    &[],
+    0,
+    Said::Text(
+        "made acts 4000 writes 2999 zeros 502 flushes 250 commits 249 refused 0\n\
+             image sectors 4096 filled 3452 sum 225305600\n",
+    ),
+)];
+
+const DRAWN_FULL: [Step; 1] = [(
+    "make 7 5000",
+    &[],
+    0,
+    Said::Text(
+        "made acts 5000 writes 3747 zeros 614 flushes 323 commits 255 refused 61\n\
+             image sectors 4096 filled 3469 sum 218582528\n",
+    ),
+)];
+
+#[test]
+fn an_image_is_made_by_drawn_acts(rt: HostRuntime) -> Result<(), Fail> {
+    let alloc = rt.alloc();
+    let _disk = take_steps(&rt, alloc, MemDisk::new(alloc), &[], &DRAWN)?;
+    let _disk = take_steps(&rt, alloc, MemDisk::new(alloc), &[], &DRAWN_LONG)?;
+    let _disk = take_steps(&rt, alloc, MemDisk::new(alloc), &[], &DRAWN_FULL)?;
+    Ok(())
+}
+
 const OVER_A_LAYER: [Step; 3] = [
     ("create", &[], 0, Said::Text("created sectors 4 layers 1\n")),
     ("write 2", &[0x41], 0, Said::Text("wrote 2 1\n")),

@@ -105,13 +105,16 @@ type Case = (
 
 const NOBODY: Failing = Failing::Nobody;
 
-const CASES: [Case; 70] = [
+const CASES: [Case; 73] = [
     ("", 0, &[], false, NOBODY, 2, "usage"),
     ("read 0 x", 0, &[], true, NOBODY, 2, "usage"),
     ("grow 0", 0, &[], true, NOBODY, 2, "usage"),
     ("commit", 0, &[], true, NOBODY, 2, "usage"),
     (COMMIT_NIL, 0, &[], true, NOBODY, 2, "usage"),
-    ("make 1 2", 0, &[], false, NOBODY, 2, "usage"),
+    ("make 1 100001", 0, &[], false, NOBODY, 2, "usage"),
+    ("make 1 2", 0, &[], true, NOBODY, 6, "image exists"),
+    ("make 1 2", 0, &[], false, Failing::Disk, 4, "disk fault"),
+    ("make 1 2", 0, &[], false, Failing::Sink, 4, "sink fault"),
     ("export", 0, &[], true, NOBODY, 2, "usage"),
     ("stack", 0, &[], false, NOBODY, 3, "stack empty"),
     ("stack", 0, &[SECOND], false, NOBODY, 3, "layer 0 parent"),

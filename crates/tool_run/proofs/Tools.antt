@@ -1,6 +1,6 @@
 -- Statuses, and what a run says that was refused or not.
 use Rattle.std.proofs.Common.{◌≡◌, ℕ, length, refl, sym, ap, ◌∙◌, subst, arith, inl, inr}
-use Rattle.std.specs.Prelude.{Option, Some, None, IfSome, ◌⊎◌, Result, Err}
+use Rattle.std.specs.Prelude.{Option, Some, None, IfSome, ◌⊎◌, Result, Ok, Err, IfErr}
 use Rattle.std.specs.Result.{IsErrOf}
 use Rattle.tool_setup.specs.declared.command.Command.{Command}
 use Rattle.tool_setup.specs.declared.command.Command.TheVariants.{Flatten, Info, Stack, Create, Grow, Read, Write, Zero, Commit, Sweep, Make, Export}
@@ -17,9 +17,8 @@ use Rattle.image_commands.specs.declared.refusal.ImageRefusal.{ImageRefusal}
 use Rattle.image_commands.specs.declared.refusal.ImageRefusal.TheVariants.{Load, Other}
 use Rattle.image_commands.specs.ImageTexts.{image_code}
 use Rattle.image_commands.specs.Images.{DiskPort}
-use Rattle.image_commands.specs.Clear.{IsClear}
 use Rattle.image_commands.proofs.ClearLaws.{clear-command}
-use Rattle.tool_run.specs.Runs.{Fails, IsComplete, PrintFails, WordsFail}
+use Rattle.tool_run.specs.Runs.{CanMake, Fails, IsComplete, IsUnhindered, MakeRefused, PrintFails, WordsFail}
 
 -- ---- statuses
 
@@ -91,8 +90,17 @@ complete-refused (Some command) before now disk disk_now told code counted (inl 
 complete-refused (Some command) before now disk disk_now told code counted (inr short) charged is =
     IfSome-each (read_by command before.left before.files) (λ files e bytes prints calm. inr (is ∙ ap (λ (r : ImageRefusal). image_code r) short.0))
 
+make-clear : (seed acts : ℕ) (before now : Ports) (disk disk_now : DiskPort) (refusal : ImageRefusal) → CanMake before now disk disk_now
+    → MakeRefused seed acts before.sink_faults now.sink_faults before.written now.written disk disk_now refusal → refusal ≡ Other refused.Memory
+make-clear seed acts before now disk disk_now (Load fault) can cause = absurd cause
+make-clear seed acts before now disk disk_now (Other refused.Memory) can cause = refl
+make-clear seed acts before now disk disk_now (Other refused.ImageExists) can cause = absurd (cause.0 can.tells (can.none can.tells))
+make-clear seed acts before now disk disk_now (Other refused.DiskFault) can cause = absurd (omega (arith, can.steady, cause.0))
+make-clear seed acts before now disk disk_now (Other refused.SinkFault) can cause = absurd (omega (arith, can.calm.sink, cause.0))
+make-clear seed acts before now disk disk_now (Other other) can cause = absurd cause
+
 clear-fails : (command : Command) (before now : Ports) (disk disk_now : DiskPort) (refusal : ImageRefusal) → IfSome before.files (λ files. length files ≡ before.count)
-    → IsClear command before now disk disk_now → Fails command before now disk disk_now refusal → refusal ≡ Other refused.Memory
+    → IsUnhindered command before now disk disk_now → Fails command before now disk disk_now refusal → refusal ≡ Other refused.Memory
 clear-fails (Create sectors) before now disk disk_now refusal counted clear cause = clear-command (Create sectors) before now disk disk_now refusal counted clear cause
 clear-fails (Read at count) before now disk disk_now refusal counted clear cause = clear-command (Read at count) before now disk disk_now refusal counted clear cause
 clear-fails (Write at) before now disk disk_now refusal counted clear cause = clear-command (Write at) before now disk disk_now refusal counted clear cause
@@ -103,19 +111,19 @@ clear-fails Stack before now disk disk_now refusal counted clear cause = absurd 
 clear-fails (Grow sectors) before now disk disk_now refusal counted clear cause = clear-command (Grow sectors) before now disk disk_now refusal counted clear cause
 clear-fails (Commit uuid) before now disk disk_now refusal counted clear cause = clear-command (Commit uuid) before now disk disk_now refusal counted clear cause
 clear-fails Sweep before now disk disk_now refusal counted clear cause = clear-command Sweep before now disk disk_now refusal counted clear cause
-clear-fails (Make seed acts) before now disk disk_now refusal counted clear cause = absurd clear.ready
+clear-fails (Make seed acts) before now disk disk_now refusal counted clear cause = make-clear seed acts before now disk disk_now refusal clear cause
 clear-fails (Export connections) before now disk disk_now refusal counted clear cause = absurd clear.ready
 
 pub clear-run : (command : Option Command) (before now : Ports) (disk disk_now : DiskPort) (refusal : ImageRefusal) (code : ℕ) → IfSome before.files (λ files. length files ≡ before.count)
     → WordsFail command before now disk disk_now refusal → code ≡ image_code refusal
-    → IfSome command (λ command. IsClear command before now disk disk_now → (code ≡ 0) ⊎ (code ≡ 5))
+    → IfSome command (λ command. IsUnhindered command before now disk disk_now → (code ≡ 0) ⊎ (code ≡ 5))
 clear-run None before now disk disk_now refusal code counted cause is = tt
 clear-run (Some command) before now disk disk_now refusal code counted (inl cause) is =
     λ clear. inr (is ∙ ap (λ (r : ImageRefusal). image_code r) (clear-fails command before now disk disk_now refusal counted clear cause))
 clear-run (Some command) before now disk disk_now refusal code counted (inr short) is = λ clear. inr (is ∙ ap (λ (r : ImageRefusal). image_code r) short.0)
 
 pub clear-done : (command : Option Command) (before now : Ports) (disk disk_now : DiskPort) (code : ℕ) → code ≡ 0
-    → IfSome command (λ command. IsClear command before now disk disk_now → (code ≡ 0) ⊎ (code ≡ 5))
+    → IfSome command (λ command. IsUnhindered command before now disk disk_now → (code ≡ 0) ⊎ (code ≡ 5))
 clear-done None before now disk disk_now code is = tt
 clear-done (Some command) before now disk disk_now code is = λ clear. inl is
 
@@ -138,3 +146,8 @@ charged-by before now r refusal is charged = record {
   shelf = charges_as (λ (p : Ports). p.shelf_faults) before now (IsErrOf r (Other refused.ShelfFault)) (refusal ≡ Other refused.ShelfFault)
       (told-by r refusal refused.ShelfFault is) (by-told r refusal refused.ShelfFault is) charged.shelf;
 }
+
+-- what has no cause is not the answer
+pub not-told : (r : Result (Unit {0}) ImageRefusal) (P : ImageRefusal → Type 0) (x : ImageRefusal) → IfErr r P → (P x → ⊥) → IsErrOf r x → ⊥
+not-told (Ok value) P x cause none is = cc
+not-told (Err y) P x cause none is = let same : y ≡ x = cc in none (subst P same cause)

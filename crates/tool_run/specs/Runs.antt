@@ -1,5 +1,5 @@
 -- What a run of the program does, and why it is refused: of a command over layers and of one on an image.
-use Rattle.std.specs.Prelude.{◌≡◌, ◌≢◌, ℕ, ◌⊎◌, ⊤, List, Option, Some, None, IfSome, Result, Ok, Err}
+use Rattle.std.specs.Prelude.{◌≡◌, ◌≢◌, ℕ, ◌^◌, ◌<◌, ◌≤◌, ◌⊎◌, IsTrue, ⊤, List, Option, Some, None, IfSome, Result, Ok, Err}
 use Rattle.std.specs.Io.KnownBytes.{Keeps}
 use Rattle.sector_extent.specs.Causes.{Charges}
 use Rattle.byte_ports.specs.declared.ports.Source as sources
@@ -24,6 +24,7 @@ use Rattle.image_commands.specs.ImageTexts.{image_text, image_code}
 use Rattle.image_commands.specs.Images.{DiskPort, Does, disk_port}
 use Rattle.image_commands.specs.ImageCauses.{Untouched, CommandCause}
 use Rattle.image_commands.specs.Clear.{IsClear}
+use Rattle.image_make.specs.Making.{HeldNone, MakeFails, MakesImage}
 
 -- all objects that a run is handed, at one moment
 pub record Moment : Type 1 where
@@ -34,7 +35,8 @@ pub record Moment : Type 1 where
 abbrev pub moment : {A B C D S : Type 0} → sources.Ghosts A → sinks.Ghosts B → sinks.Ghosts C → disks.Ghosts D → shelves.Ghosts S → A → B → C → D → S → Moment
 moment a b c d s source out notes disk shelf = record { ports = ports_of a b s source out shelf; notes = notes_of c notes; disk = disk_port d disk }
 
--- The command is one of those that are run here; a size that is asked for is one of an image, and a uuid not the nil one.
+-- The command is one of those that are run here; a size that is asked for is one of an image, a uuid not the nil one, and a
+-- seed below 2^31 for at most 100,000 acts.
 abbrev pub IsRun : Command → Type 0
 IsRun (Flatten stdin) = ⊤
 IsRun (Info number) = ⊤
@@ -46,7 +48,7 @@ IsRun (Zero at count) = ⊤
 IsRun (Grow sectors) = IsSize sectors
 IsRun (Commit uuid) = uuid ≢ nil
 IsRun Sweep = ⊤
-IsRun (Make seed acts) = ⊥
+IsRun (Make seed acts) = (seed < 2 ^ 31) × (acts ≤ 100000)
 IsRun (Export connections) = ⊥
 
 -- What a command over layers does: it prints, and leaves the disk as it was. The shelf has the layer, or layers for a stack, also
@@ -67,7 +69,7 @@ Succeeds (Zero at count) before now disk disk_now = Does (Zero at count) before 
 Succeeds (Grow sectors) before now disk disk_now = Does (Grow sectors) before now disk disk_now
 Succeeds (Commit uuid) before now disk disk_now = Does (Commit uuid) before now disk disk_now
 Succeeds Sweep before now disk disk_now = Does Sweep before now disk disk_now
-Succeeds (Make seed acts) before now disk disk_now = ⊥
+Succeeds (Make seed acts) before now disk disk_now = MakesImage seed acts before.written now.written disk disk_now
 Succeeds (Export connections) before now disk disk_now = ⊥
 
 -- The cause of a refusal of a command over layers, which leaves the disk as it was; and that no layer, or no layers for a stack,
@@ -76,6 +78,12 @@ abbrev pub PrintFails : Command → Ports → Ports → DiskPort → DiskPort �
 PrintFails command before now disk disk_now (Other refusal) =
     Cause command before now refusal × Quiet disk.state disk_now.state × IsCounted command before.count (λ told. refusal ≡ told) ⊥
 PrintFails command before now disk disk_now (Load fault) = ⊥
+
+-- why `make` is refused, which opens no image
+abbrev pub MakeRefused : ℕ → ℕ → (sink sink_now : ℕ) → (written written_now : Option (List ℕ)) → (disk disk_now : DiskPort) → ImageRefusal → Type 0
+MakeRefused seed acts sink sink_now written written_now disk disk_now (Other refusal) =
+    MakeFails seed acts sink sink_now written written_now disk disk_now refusal
+MakeRefused seed acts sink sink_now written written_now disk disk_now (Load fault) = ⊥
 
 -- the cause of a refusal, and what stands after it
 abbrev pub Fails : Command → Ports → Ports → DiskPort → DiskPort → ImageRefusal → Type 0
@@ -89,7 +97,8 @@ Fails (Zero at count) before now disk disk_now refusal = CommandCause (Zero at c
 Fails (Grow sectors) before now disk disk_now refusal = CommandCause (Grow sectors) before now disk disk_now refusal
 Fails (Commit uuid) before now disk disk_now refusal = CommandCause (Commit uuid) before now disk disk_now refusal
 Fails Sweep before now disk disk_now refusal = CommandCause Sweep before now disk disk_now refusal
-Fails (Make seed acts) before now disk disk_now refusal = ⊥
+Fails (Make seed acts) before now disk disk_now refusal =
+    MakeRefused seed acts before.sink_faults now.sink_faults before.written now.written disk disk_now refusal
 Fails (Export connections) before now disk disk_now refusal = ⊥
 
 -- the command itself where it is one of those that are run here
@@ -104,7 +113,7 @@ run_of (Zero at count) = Some (Zero at count)
 run_of (Grow sectors) = Some (Grow sectors)
 run_of (Commit uuid) = Some (Commit uuid)
 run_of Sweep = Some Sweep
-run_of (Make seed acts) = None
+run_of (Make seed acts) = Some (Make seed acts)
 run_of (Export connections) = None
 
 abbrev pub run_if : Result Command WordsFault → Option Command
@@ -154,10 +163,32 @@ abbrev pub IsComplete : Option Command → Ports → Ports → ℕ → Type 0
 IsComplete words before now code = IfSome words (λ command. IfSome (read_by command before.left before.files) (λ files.
     (bytes : List ℕ) → Prints command files bytes → IsCalm before now → (code ≡ 0) ⊎ (code ≡ 5)))
 
+-- nothing stands in the way of `make`: the disk tells and holds no image, and no object failed
+pub record CanMake (before now : Ports) (disk disk_now : DiskPort) : Type 0 where
+  pub calm : IsCalm before now
+  pub steady : disk_now.faults ≤ disk.faults
+  pub tells : IsTrue disk.tells
+  pub none : HeldNone disk
+
+-- nothing stands in the way of a command on an image
+abbrev pub IsUnhindered : Command → Ports → Ports → DiskPort → DiskPort → Type 0
+IsUnhindered (Make seed acts) before now disk disk_now = CanMake before now disk disk_now
+IsUnhindered (Flatten stdin) before now disk disk_now = IsClear (Flatten stdin) before now disk disk_now
+IsUnhindered (Info number) before now disk disk_now = IsClear (Info number) before now disk disk_now
+IsUnhindered Stack before now disk disk_now = IsClear Stack before now disk disk_now
+IsUnhindered (Create sectors) before now disk disk_now = IsClear (Create sectors) before now disk disk_now
+IsUnhindered (Read at count) before now disk disk_now = IsClear (Read at count) before now disk disk_now
+IsUnhindered (Write at) before now disk disk_now = IsClear (Write at) before now disk disk_now
+IsUnhindered (Zero at count) before now disk disk_now = IsClear (Zero at count) before now disk disk_now
+IsUnhindered (Grow sectors) before now disk disk_now = IsClear (Grow sectors) before now disk disk_now
+IsUnhindered (Commit uuid) before now disk disk_now = IsClear (Commit uuid) before now disk disk_now
+IsUnhindered Sweep before now disk disk_now = IsClear Sweep before now disk disk_now
+IsUnhindered (Export connections) before now disk disk_now = IsClear (Export connections) before now disk disk_now
+
 -- and so where nothing stands in the way of a command on an image
 abbrev pub IsImageComplete : Option Command → Moment → Moment → ℕ → Type 0
 IsImageComplete words before now code =
-    IfSome words (λ command. IsClear command before.ports now.ports before.disk now.disk → (code ≡ 0) ⊎ (code ≡ 5))
+    IfSome words (λ command. IsUnhindered command before.ports now.ports before.disk now.disk → (code ≡ 0) ⊎ (code ≡ 5))
 
 -- the words ask for a layer whose number is not below the shelf's count
 abbrev pub AreMissing : Option Command → ℕ → Type 0

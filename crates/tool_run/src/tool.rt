@@ -1,5 +1,6 @@
 //! The top call: what the words ask for, and how a refusal is told.
-ghost use Rattle.std.specs.Prelude.{◌≡◌, ◌≢◌, ◌⊎◌, map, string_bytes, None, Some, IfErr, IfOk, IfSome, IsErrOf, IsSome, OnOk};
+ghost use Rattle.std.specs.Prelude.{◌≡◌, ◌≢◌, ◌^◌, ◌<◌, ◌≤◌, ◌⊎◌, map, string_bytes, None, Some, IfErr, IfOk, IfSome, IsErrOf, IsSome, OnOk};
+ghost use Rattle.sector_extent.specs.Causes.{Charges};
 ghost use Rattle.layer_commands.specs.declared.refusal.Refusal.TheVariants as refused;
 ghost use Rattle.layer_commands.specs.Texts.{line_of};
 ghost use Rattle.layer_commands.specs.Ports.{TakesAtMost, notes_of, ports_of};
@@ -7,8 +8,9 @@ ghost use Rattle.layer_commands.specs.Causes.{IsMissing, IsNoted, most_taken};
 ghost use Rattle.image_commands.specs.declared.refusal.ImageRefusal.TheVariants.{Other};
 ghost use Rattle.image_commands.specs.ImageTexts.{image_text};
 ghost use Rattle.image_commands.specs.Images.{disk_port};
+ghost use Rattle.image_make.specs.Making.{MakesImage};
 ghost use Rattle.tool_run.specs.Runs.{asked, moment, most_of, AllCharged, AreMissing, Fails, IsComplete, IsImageComplete};
-ghost use Rattle.tool_run.specs.Runs.{IsRun, RunFails, RunSucceeds, Succeeds, WordsFail};
+ghost use Rattle.tool_run.specs.Runs.{IsRun, MakeRefused, RunFails, RunSucceeds, Succeeds, WordsFail};
 
 use block_disk::Disk;
 use byte_ports::{Sink, Source};
@@ -16,6 +18,7 @@ use image_commands::{
     ImageRefusal, as_command, commit_image, create_image, grow_image, push_image_refusal,
     read_image, sweep_image, write_image, zero_image,
 };
+use image_make::make_drawn;
 use layer_commands::{Line, Refusal, run_layers};
 use layer_shelf::Shelf;
 use std::alloc::Global;
@@ -25,6 +28,27 @@ use tool_setup::{Command, WordList, WordsFault, read_words};
 #[derive(Clone, Copy, Debug, PartialEq, Eq)]
 pub struct Status {
     pub code: u8,
+}
+
+// Makes an image by acts that are drawn of the seed.
+fn make_image<B: Sink, D: Disk>(
+    alloc: Global,
+    seed: u64,
+    acts: u64,
+    disk: D,
+    out: &mut B,
+) -> (Result<(), ImageRefusal>, D)
+    requires seed { seed < 2 ^ 31 }
+    requires acts { acts ≤ 100000 }
+    ensures done { OnOk result.0 (MakesImage seed acts (B.written out.old) (B.written out.new)
+        (disk_port D.Disk disk) (disk_port D.Disk result.1)) }
+    ensures refused { IfErr result.0 (MakeRefused seed acts (B.faults out.old) (B.faults out.new)
+        (B.written out.old) (B.written out.new) (disk_port D.Disk disk) (disk_port D.Disk result.1)) }
+    ensures disk_cause { Charges D.faults disk result.1 (IsErrOf result.0 (Other refused.DiskFault)) }
+    ensures sink_cause { Charges B.faults out.old out.new (IsErrOf result.0 (Other refused.SinkFault)) }
+{
+    let (answer, disk) = make_drawn(alloc, seed, acts, disk, out);
+    (as_command(answer), disk)
 }
 
 // Runs a command.
@@ -65,7 +89,8 @@ fn run_command<A: Source, B: Sink, D: Disk, S: Shelf>(
         }
         Command::Commit(uuid) => commit_image(alloc, uuid, shelf, disk, out),
         Command::Sweep => sweep_image(alloc, shelf, disk, out),
-        Command::Make { .. } | Command::Export { .. } => unreachable!(),
+        Command::Make { seed, acts } => make_image(alloc, seed, acts, disk, out),
+        Command::Export { .. } => unreachable!(),
     }
 }
 
@@ -77,7 +102,7 @@ fn read_command(alloc: Global, words: &WordList) -> Result<Command, Refusal>
 {
     match read_words(alloc, words) {
         Ok(command) => match command {
-            Command::Make { .. } | Command::Export { .. } => Err(Refusal::Usage),
+            Command::Export { .. } => Err(Refusal::Usage),
             Command::Flatten { .. }
             | Command::Info(_)
             | Command::Stack
@@ -87,7 +112,8 @@ fn read_command(alloc: Global, words: &WordList) -> Result<Command, Refusal>
             | Command::Write { .. }
             | Command::Zero { .. }
             | Command::Commit(_)
-            | Command::Sweep => Ok(command),
+            | Command::Sweep
+            | Command::Make { .. } => Ok(command),
         },
         Err(WordsFault::Memory) => Err(Refusal::Memory),
         Err(_) => Err(Refusal::Usage),

@@ -4,6 +4,11 @@ use Rattle.layer_commands.specs.Ports.{Ports, ports_of}
 use Rattle.layer_commands.proofs.Charged.{charges_at, stays}
 use Rattle.image_commands.proofs.Answered.{unfed}
 use Rattle.image_commands.specs.Images.{DiskPort, disk_port}
+use Rattle.layer_commands.specs.declared.refusal.Refusal.TheVariants as refused
+use Rattle.image_commands.specs.declared.refusal.ImageRefusal.{ImageRefusal}
+use Rattle.image_commands.specs.declared.refusal.ImageRefusal.TheVariants.{Other}
+use Rattle.tool_run.specs.Runs.{MakeRefused}
+use Rattle.tool_run.proofs.Tools.{not-told}
 use Rattle.tool_run.proofs.tool.run_command.Goals as goal
 
 pub returns-in-Create-clause-refused : goal.returns-in-Create-clause-refused
@@ -136,4 +141,27 @@ returns-in-Sweep-clause-charged g c =
         shelf = charges_at g.S.Shelf.faults c.args.shelf.now c.sweep_image.new.shelf (λ (p : Ports). p.shelf_faults) before now _ refl refl c.sweep_image.ensures.shelf_cause;
       };
       disk_cause = charges_at g.D.Disk.faults c.args.disk c.sweep_image.result.1 (λ (n : ℕ). n) (g.D.Disk.faults c.args.disk) (g.D.Disk.faults c.sweep_image.result.1) _ refl refl c.sweep_image.ensures.disk_cause;
+    }
+
+pub returns-in-Make-clause-done : goal.returns-in-Make-clause-done
+returns-in-Make-clause-done g c = rw c.in-Make.is c.make_image.ensures.done
+
+pub returns-in-Make-clause-refused : goal.returns-in-Make-clause-refused
+returns-in-Make-clause-refused g c = rw c.in-Make.is c.make_image.ensures.refused
+
+pub returns-in-Make-clause-charged : goal.returns-in-Make-clause-charged
+returns-in-Make-clause-charged g c =
+    let before : Ports = ports_of g.A.Source g.B.Sink g.S.Shelf c.args.source.now c.args.out.now c.args.shelf.now in
+    let now : Ports = ports_of g.A.Source g.B.Sink g.S.Shelf c.args.source.now c.make_image.new.out c.args.shelf.now in
+    let disk : DiskPort = disk_port g.D.Disk c.args.disk in
+    let disk_now : DiskPort = disk_port g.D.Disk c.make_image.result.1 in
+    let cause : ImageRefusal → Type 0 =
+    λ refusal. MakeRefused c.in-Make.seed c.in-Make.acts before.sink_faults now.sink_faults before.written now.written disk disk_now refusal in
+    record {
+      ports = record {
+        source = stays (λ (p : Ports). p.source_faults) before now _ refl (not-told c.make_image.result.0 cause (Other refused.SourceFault) c.make_image.ensures.refused (λ none. none));
+        sink = charges_at g.B.Sink.faults c.args.out.now c.make_image.new.out (λ (p : Ports). p.sink_faults) before now _ refl refl c.make_image.ensures.sink_cause;
+        shelf = stays (λ (p : Ports). p.shelf_faults) before now _ refl (not-told c.make_image.result.0 cause (Other refused.ShelfFault) c.make_image.ensures.refused (λ none. none));
+      };
+      disk_cause = charges_at g.D.Disk.faults c.args.disk c.make_image.result.1 (λ (n : ℕ). n) (g.D.Disk.faults c.args.disk) (g.D.Disk.faults c.make_image.result.1) _ refl refl c.make_image.ensures.disk_cause;
     }
