@@ -5,3 +5,4 @@ pub mod Lines
 pub mod Examples
 pub mod Making
 pub mod Steps
+pub mod NoLayers

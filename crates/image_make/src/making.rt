@@ -33,7 +33,7 @@ fn sum_into<D: Disk>(alloc: Global, image: &mut Image<D>, out: &mut [u8]) -> Res
     ensures cause { Charges (faults_in D.Disk) image.old image.new (IsErrOf result Refusal.DiskFault) }
 {
     let count = image.sectors();
-    match image.read_whole(alloc, &mut NoLayers, extent_of(0, count), out) {
+    match image.read_whole(alloc, &mut NoLayers { count: 0 }, extent_of(0, count), out) {
         Ok(()) => Ok(sum_sectors(out)),
         Err(WholeFault::Memory) => Err(Refusal::Memory),
         Err(WholeFault::DiskFault) => Err(Refusal::DiskFault),
