@@ -1,5 +1,5 @@
 -- What a shelf tells that is handed to an image over no layers.
-use Rattle.std.specs.Prelude.{◌≡◌, ℕ, zero, suc, List, [], length, Option, Some, None, IfSome, refl, tt}
+use Rattle.std.specs.Prelude.{◌≡◌, ℕ, zero, suc, List, [], length, Option, Some, None, IfSome, refl}
 
 -- that it has no files; of more it would tell none
 abbrev pub files_of_none : ℕ → Option (List (List ℕ))
