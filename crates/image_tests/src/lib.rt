@@ -2,18 +2,22 @@
 #![tactic(auto)]
 
 #[cfg(test)]
-mod commit_tests;
+mod beginning_tests;
 #[cfg(test)]
-mod grow_tests;
+mod disks;
 #[cfg(test)]
-mod image_core_tests;
+mod example_tests;
+#[cfg(test)]
+mod expecting;
+#[cfg(test)]
+mod fault_tests;
+#[cfg(test)]
+mod layers;
+#[cfg(test)]
+mod lower_tests;
 #[cfg(test)]
 mod old_tests;
 #[cfg(test)]
-mod recovery_tests;
+mod scenes;
 #[cfg(test)]
-mod steps_tests;
-#[cfg(test)]
-mod table_tests;
-#[cfg(test)]
-mod whole_tests;
+mod steps;
