@@ -338,3 +338,84 @@ fn a_commit_goes_on_after_a_fault(rt: HostRuntime) -> Result<(), Fail> {
     holds(&rt, again == whole, "the same file");
     Ok(())
 }
+
+const LARGEST: [Step; 2] = [
+    (
+        "create --sectors 2147483648",
+        &[],
+        0,
+        Said::Text("created sectors 2147483648 layers 0\n"),
+    ),
+    ("write 0", &[0x41], 0, Said::Text("wrote 0 1\n")),
+];
+
+// A row that makes the sector 1 zeros.
+const ZEROED: [u8; 16] = [1, 0, 0, 0, 0, 0, 4, 0, 0, 0, 0, 0, 0, 0, 0x80, 0];
+
+// A top has at most 4,194,304 rows. One fewer, without the first of them, and as the mark counts them.
+const MORE_ROWS: usize = 4_194_302;
+
+const COUNTED: [u8; 3] = [0xFF, 0xFF, 0x3F];
+
+fn zeroed_rows(alloc: Global, count: usize) -> Result<Vec<u8>, AllocError> {
+    let mut rows = Vec::new(alloc);
+    for _ in 0..count {
+        rows.extend_from_slice(&ZEROED)?;
+    }
+    Ok(rows)
+}
+
+// The disk with these bytes in a file, from there on.
+fn with_bytes(disk: MemDisk, file: u32, at: u64, bytes: &[u8]) -> Result<MemDisk, Fail> {
+    let mut disk = disk;
+    if at > 8192 || bytes.len() > 1 << 27 {
+        return Err(Fail::new("too far"));
+    }
+    match disk.write_at(file, at, bytes) {
+        Ok(()) => Ok(disk),
+        Err(_) => Err(Fail::new("it is not written")),
+    }
+}
+
+// The largest image, whose top has room for one more row. Its first sector was written, and then the second was
+// zeroed over and over.
+fn nearly_full(rt: &impl Abort, alloc: Global) -> Result<MemDisk, Fail> {
+    let disk = take_steps(rt, alloc, MemDisk::new(alloc), &[], &LARGEST)?;
+    let rows = zeroed_rows(alloc, MORE_ROWS)?;
+    let disk = with_bytes(disk, 2, 4112, &rows)?;
+    with_bytes(disk, 3, 528, &COUNTED)
+}
+
+// A zero takes a row for each 16,383 sectors or part of them. A commit makes room again.
+const FULL: [Step; 7] = [
+    (
+        "zero 8 16384",
+        &[],
+        6,
+        Said::Text("refused: full 4194303 1\n"),
+    ),
+    ("zero 8 16383", &[], 0, Said::Text("zeroed 8 16383\n")),
+    (
+        "write 2",
+        &[0x41],
+        6,
+        Said::Text("refused: full 4194304 1\n"),
+    ),
+    ("read 0 3", &[], 0, Said::Sectors(&[0x41, 0, 0])),
+    (
+        "commit 22222222-2222-2222-2222-222222222222",
+        &[],
+        0,
+        Said::Text("committed 22222222-2222-2222-2222-222222222222 layer 0 bytes 12288\n"),
+    ),
+    ("write 2", &[0x42], 0, Said::Text("wrote 2 1\n")),
+    ("read 0 3", &[], 0, Said::Sectors(&[0x41, 0, 0x42])),
+];
+
+#[test]
+fn no_top_has_more_rows_than_it_may(rt: HostRuntime) -> Result<(), Fail> {
+    let alloc = rt.alloc();
+    let disk = nearly_full(&rt, alloc)?;
+    let _disk = take_steps(&rt, alloc, disk, &[], &FULL)?;
+    Ok(())
+}
