@@ -51,6 +51,9 @@ cp first.layer input
 check 0 first.raw '' flatten --stdin
 cp first.raw input
 check 3 '' 'layer 0: short' flatten --stdin
+# one byte more than it takes, in a file with a hole
+truncate -s $(((1 << 30) + 1)) input
+check 6 '' 'too long' flatten --stdin
 : > input
 
 # a folder without layers
