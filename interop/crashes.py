@@ -119,7 +119,7 @@ class Client:
         return None
 
 
-def control(port, clients, pending, committed):
+def control(port, clients, pending, committed, bad):
     """Commits again and again. A commit that is answered keeps all that was answered before it was asked."""
     try:
         with socket.create_connection(("127.0.0.1", port)) as wire:
@@ -136,7 +136,8 @@ def control(port, clients, pending, committed):
                     return
                 # (a commit that was sealed when the server was killed is a layer already)
                 if answer != f"committed {name}\n".encode() and not (is_again and answer == b"refused uuid twice\n"):
-                    fail(f"a commit was answered {answer}")
+                    bad.append(f"a commit was answered {answer}")
+                    return
                 pending.pop()
                 if answer.startswith(b"refused"):
                     before = [0, 0]
@@ -155,7 +156,7 @@ def tool(*words):
 
 
 def sealed():
-    """The sums of the sealed files that a later commit or a sweep may not touch: all but the last, whose commit may go on."""
+    """The sums of the sealed files."""
     names = sorted((it for it in os.listdir("disk") if it.startswith("sealed-")), key=lambda it: int(it.split("-")[1]))
     return {it: hashlib.sha256(open(f"disk/{it}", "rb").read()).hexdigest() for it in names}
 
@@ -184,9 +185,9 @@ def main():
                     time.sleep(0.02)
             else:
                 fail("the server does not listen")
-        was = list(pending)
+        was, bad = list(pending), []
         threads = [threading.Thread(target=it.run, args=(tag + k * 1_000_000,)) for k, it in enumerate(clients)]
-        threads.append(threading.Thread(target=control, args=(at, clients, pending, committed)))
+        threads.append(threading.Thread(target=control, args=(at, clients, pending, committed, bad)))
         for it in threads:
             it.start()
         time.sleep(draw.random() * draw.choice([0.05, 0.3, 1.0]))
@@ -196,8 +197,9 @@ def main():
             it.join()
         for it in clients:
             it.wire.close()
-            if it.bad:
-                fail(it.bad)
+        # (a thread that ends the program ends itself alone)
+        for it in bad + [it.bad for it in clients if it.bad]:
+            fail(it)
         after = tags_of(tool("read", "0", str(SECTORS)))
         for k, it in enumerate(clients):
             count = it.fits(after[k * HALF:(k + 1) * HALF])
