@@ -1,6 +1,7 @@
 //! Reads the words of one simple command with `clap`.
-ghost use Rattle.std.specs.Prelude.{◌≡◌, map, option_map, string_bytes, true, ⊤};
+ghost use Rattle.std.specs.Prelude.{◌≡◌, IfErr, IfOk, map, option_map, string_bytes, true, ⊤};
 ghost use Rattle.clap.specs.Words.{app_of, first_of, found_of, is_simple_and_free, rows_of};
+ghost use Rattle.tool_setup.specs.declared.command.WordsFault.{WordsFault};
 ghost use Rattle.tool_setup.specs.Taken.{Takes, bare, flagged, optioned, one_more, given, is_set};
 
 use crate::command::WordsFault;
@@ -44,11 +45,31 @@ fn has_flag(matches: &ArgMatches<'_>, id: &str) -> bool
     }
 }
 
+// A command without arguments, and without a help flag.
+fn bare_command<'a>(alloc: Global, name: &'a str) -> Command<'a>
+    ensures { app_of result ≡ bare name.now }
+{
+    Command::new(alloc, name).disable_help_flag(true)
+}
+
+// The command with one more argument, which is required.
+fn with_one_more<'a>(
+    alloc: Global,
+    command: Command<'a>,
+    id: &'a str,
+) -> Result<Command<'a>, WordsFault>
+    ensures made { IfOk result (λ made. app_of made ≡ one_more (app_of command.entry) id.now) }
+    ensures memory { IfErr result (λ fault. fault ≡ WordsFault.Memory) }
+{
+    let argument = Arg::new(alloc, id).required(true).action(ArgAction::Set);
+    Ok(command.arg(argument)?)
+}
+
 /// Reads the words of a command without arguments.
 pub fn parse_bare<'a>(alloc: Global, name: &'a str, words: &'a [String]) -> Result<(), WordsFault>
     ensures { Takes (bare name.now) (map string_bytes words.now) (λ rows found. ⊤) result }
 {
-    let command = Command::new(alloc, name).disable_help_flag(true);
+    let command = bare_command(alloc, name);
     let _matches = parse(command, words)?;
     Ok(())
 }
@@ -64,9 +85,7 @@ pub fn parse_flag<'a>(
         (λ rows found. found ≡ is_set flag.now rows) result }
 {
     let argument = Arg::new(alloc, flag).long(flag).action(ArgAction::SetTrue);
-    let command = Command::new(alloc, name)
-        .disable_help_flag(true)
-        .arg(argument)?;
+    let command = bare_command(alloc, name).arg(argument)?;
     let matches = parse(command, words)?;
     Ok(has_flag(&matches, flag))
 }
@@ -82,9 +101,7 @@ pub fn parse_option<'a>(
         (λ rows found. option_map (λ text. text.now) found ≡ first_of option.now rows) result }
 {
     let argument = Arg::new(alloc, option).long(option).action(ArgAction::Set);
-    let command = Command::new(alloc, name)
-        .disable_help_flag(true)
-        .arg(argument)?;
+    let command = bare_command(alloc, name).arg(argument)?;
     let matches = parse(command, words)?;
     Ok(matches.get_str(option))
 }
@@ -99,10 +116,7 @@ pub fn parse_one<'a>(
     ensures { Takes (one_more (bare name.now) first.now) (map string_bytes words.now)
         (λ rows found. found.now ≡ given first.now rows) result }
 {
-    let argument = Arg::new(alloc, first).required(true).action(ArgAction::Set);
-    let command = Command::new(alloc, name)
-        .disable_help_flag(true)
-        .arg(argument)?;
+    let command = with_one_more(alloc, bare_command(alloc, name), first)?;
     let matches = parse(command, words)?;
     Ok(value_of(&matches, first))
 }
@@ -118,14 +132,8 @@ pub fn parse_two<'a>(
     ensures { Takes (one_more (one_more (bare name.now) first.now) second.now) (map string_bytes words.now)
         (λ rows found. (found.0.now ≡ given first.now rows) × (found.1.now ≡ given second.now rows)) result }
 {
-    let one = Arg::new(alloc, first).required(true).action(ArgAction::Set);
-    let other = Arg::new(alloc, second)
-        .required(true)
-        .action(ArgAction::Set);
-    let command = Command::new(alloc, name)
-        .disable_help_flag(true)
-        .arg(one)?
-        .arg(other)?;
+    let command = with_one_more(alloc, bare_command(alloc, name), first)?;
+    let command = with_one_more(alloc, command, second)?;
     let matches = parse(command, words)?;
     Ok((value_of(&matches, first), value_of(&matches, second)))
 }
