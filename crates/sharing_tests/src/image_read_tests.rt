@@ -5,7 +5,7 @@ ghost use Rattle.shared_image.specs.Turns.{IsIdleSeat, IsSameSeat};
 ghost use Rattle.nbd_session.specs.Sessions.{ends};
 ghost use Rattle.image_read.specs.Headline.{Headline};
 
-use crate::images::{holds, started};
+use crate::images::{holds, no_files, started};
 use block_disk::{Disk, MemDisk};
 use byte_ports::{MemSink, MemSource, Sink, Source};
 use flat_image::ImagePort;
@@ -13,23 +13,13 @@ use image_core::CopyState;
 use image_read::{Reader, headline_law};
 use layer_shelf::{MemShelf, Shelf};
 use nbd_session::{Export, NameBytes, Served, serve_connection};
-use sector_extent::{Bytes, CallList, Extent, FileTexts};
+use sector_extent::{Bytes, CallList, Extent};
 use shared_image::{ImageSeat, SharedImage};
 use std::alloc::{AllocError, Global};
 use std::sync::Wait;
 use std::test::Fail;
 use std::thread;
 use std::thread::Threads;
-
-// A shelf without files.
-fn no_files(alloc: Global) -> MemShelf
-    ensures { result.files ≡ [] }
-{
-    MemShelf::new(
-        FileTexts::from_vec(Vec::new(alloc)),
-        CallList::from_vec(Vec::new(alloc)),
-    )
-}
 
 // A reader of an image without layers, with a seat that has seen nothing.
 fn reader_of<'a, D: Disk, R: Wait>(

@@ -1,5 +1,5 @@
 //! Images without layers, shared by seats, and what a test expects.
-ghost use Rattle.std.specs.Prelude.{◌≡◌, ◌^◌, ◌<◌, ◌≤◌, [], All, IfOk};
+ghost use Rattle.std.specs.Prelude.{◌≡◌, ◌^◌, ◌<◌, ◌≤◌, [], ◌∷◌, All, IfOk};
 ghost use Rattle.lsmt_header.specs.Blocks.{IsSize};
 ghost use Rattle.turn_lock.specs.Locks.{AreSeats};
 ghost use Rattle.image_core.specs.Creating.{fresh_at};
@@ -7,6 +7,8 @@ ghost use Rattle.image_core.specs.Seen.{seen, view, faults_in, StandsFor};
 
 use block_disk::Disk;
 use image_core::{Image, LayerList};
+use layer_shelf::MemShelf;
+use sector_extent::{Bytes, CallList, FileTexts};
 use shared_image::SharedImage;
 use std::alloc::Global;
 use std::marker::Brand;
@@ -17,6 +19,28 @@ use turn_lock::SeatList;
 /// Ends the test with these words, unless it holds.
 pub fn holds(rt: &impl Abort, is_so: bool, words: &str) {
     assert!(rt; is_so, "{words}");
+}
+
+/// A shelf without files.
+pub fn no_files(alloc: Global) -> MemShelf
+    ensures { result.files ≡ [] }
+{
+    MemShelf::new(
+        FileTexts::from_vec(Vec::new(alloc)),
+        CallList::from_vec(Vec::new(alloc)),
+    )
+}
+
+/// A shelf of one file.
+pub fn shelf_of(alloc: Global, file: Vec<u8>) -> Result<MemShelf, Fail>
+    ensures { IfOk result (λ shelf. shelf.files ≡ file.items ∷ []) }
+{
+    let mut files = Vec::new(alloc);
+    files.push(Bytes::from_vec(file))?;
+    Ok(MemShelf::new(
+        FileTexts::from_vec(files),
+        CallList::from_vec(Vec::new(alloc)),
+    ))
 }
 
 // No lower layers.

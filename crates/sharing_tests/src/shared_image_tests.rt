@@ -1,27 +1,72 @@
 //! Seats of one image, one after another and at once.
-ghost use Rattle.std.specs.Prelude.{◌≡◌, ◌+◌, ◌*◌, ◌<◌, ◌≤◌, false, length, IfOk};
+ghost use Rattle.std.specs.Prelude.{◌≡◌, ◌+◌, ◌*◌, ◌<◌, ◌≤◌, [], false, length, IfOk};
 ghost use Rattle.lsmt_header.specs.Blocks.{nil};
 ghost use Rattle.turn_lock.specs.Locks.{AreSeats};
-ghost use Rattle.image_core.specs.Seen.{seen, IsImage};
+ghost use Rattle.flat_image.specs.declared.base.Base.{Base};
+ghost use Rattle.flat_image.specs.History.{History};
+ghost use Rattle.image_core.specs.Seen.{seen, StandsFor};
 ghost use Rattle.image_core.specs.Steps.{MayStep, MayRun};
 ghost use Rattle.shared_image.specs.Turns.{IsIdleSeat, IsSameSeat};
 
-use crate::images::{holds, new_image, started};
+use crate::images::{holds, new_image, no_files, shelf_of, started};
 use block_disk::{Disk, MemDisk};
 use flat_image::PortFault;
 use image_core::{CopyState, Image, Numbered, ReplyList, Status, Step, StepList, run_steps};
+use sealed_layer::{paint_part, read_layer};
 use sector_extent::{Bytes, Extent, GapList, ListOf, Memory};
 use shared_image::{ImageSeat, SharedImage, acknowledged_law, committed_law, one_thread_law};
 use std::alloc::Global;
 use std::sync::Wait;
+use std::sync::atomic::{AtomicU64, Ordering};
 use std::test::Fail;
 use std::thread;
-use std::thread::Threads;
+use std::thread::{Threads, yield_now};
 
 // The sectors of the image, and those that each of four seats has for itself.
 const SECTORS: u64 = 16;
 
 const OWN: u64 = 4;
+
+// The uuid of a commit.
+const COMMIT: [u8; 16] = [0x22; 16];
+
+// How often a caller looks for the others before it goes on without them.
+const LOOKS: u32 = 100_000;
+
+// The callers that came, and those that were done, with a bit for each number.
+#[derive(Drop)]
+struct Meeting {
+    came: AtomicU64,
+    done: AtomicU64,
+}
+
+impl Meeting {
+    fn new() -> Meeting {
+        Meeting {
+            came: AtomicU64::new(0),
+            done: AtomicU64::new(0),
+        }
+    }
+
+    // Comes, and looks for the others.
+    fn come(&self) {
+        self.came.fetch_add(1, Ordering::SeqCst);
+        for _ in 0..LOOKS {
+            if self.came.load(Ordering::SeqCst) >= 5 {
+                return;
+            }
+            yield_now();
+        }
+    }
+
+    fn tell(&self, number: u64) {
+        self.done.fetch_add(1 << number.min(4), Ordering::SeqCst);
+    }
+
+    fn are_done(&self) -> u64 {
+        self.done.load(Ordering::SeqCst)
+    }
+}
 
 // Two flushes by one seat.
 fn flush_twice<D: Disk, R: Wait>(
@@ -141,25 +186,82 @@ fn change_own<D: Disk, R: Wait>(
     )
 }
 
-// The same by the seat with that number.
-fn change_as<D: Disk, R: Wait>(
+// Copies all pieces of the commit.
+fn copy_whole<D: Disk, R: Wait>(rt: &R, shared: &SharedImage<D>, seat: &mut ImageSeat<D>) -> bool
+    requires seat { IsIdleSeat shared.now seat.old }
+    ensures same { IsSameSeat seat.old seat.new }
+{
+    for _ in 0..100 {
+        match shared.copy(rt, seat, COMMIT) {
+            Ok(CopyState::More) => {}
+            Ok(CopyState::Whole) => return true,
+            Err(_) => return false,
+        }
+    }
+    false
+}
+
+// What a fifth seat does: it makes a whole commit.
+fn commit_whole<D: Disk, R: Wait>(
     rt: &R,
+    alloc: Global,
+    shared: &SharedImage<D>,
+    seat: &mut ImageSeat<D>,
+) -> bool
+    requires seat { IsIdleSeat shared.now seat.old }
+    ensures same { IsSameSeat seat.old seat.new }
+{
+    shared.freeze(rt, alloc, seat, COMMIT).is_ok()
+        && copy_whole(rt, shared, seat)
+        && shared.seal(rt, seat, COMMIT).is_ok()
+}
+
+// What the caller with that number does, and whether it was done.
+fn act<D: Disk, R: Wait>(
+    rt: &R,
+    alloc: Global,
+    shared: &SharedImage<D>,
+    seat: &mut ImageSeat<D>,
+    number: u64,
+) -> bool
+    requires sectors { shared.now.base.sectors ≡ 16 }
+    requires seat { IsIdleSeat shared.now seat.old }
+    ensures same { IsSameSeat seat.old seat.new }
+{
+    if number < 4 {
+        return change_own(rt, shared, seat, number).is_ok();
+    }
+    commit_whole(rt, alloc, shared, seat)
+}
+
+// The same by the seat with that number, once all have come. Where it is done, the bit of the number is
+// added.
+fn act_as<D: Disk, R: Wait>(
+    rt: &R,
+    alloc: Global,
     shared: &SharedImage<D>,
     seat: &mut ImageSeat<D>,
     number: usize,
+    meeting: &Meeting,
 )
     requires sectors { shared.now.base.sectors ≡ 16 }
     requires seat { (seat.old.lock ≡ shared.now.id) × (seat.old.holds ≡ false) }
     ensures { (seat.new.lock ≡ seat.old.lock) × (seat.new.number ≡ seat.old.number) × (seat.new.holds ≡ false) }
 {
-    let _ = change_own(rt, shared, seat, number.min(3) as u64);
+    let number = number.min(4) as u64;
+    meeting.come();
+    if act(rt, alloc, shared, seat, number) {
+        meeting.tell(number);
+    }
 }
 
-// All four at once, each in a thread of its own.
-fn change_by_each<D: Disk + Send, R: Threads + Wait + Sync>(
+// All five at once, each in a thread of its own.
+fn act_by_each<D: Disk + Send, R: Threads + Wait + Sync>(
     rt: &R,
+    alloc: Global,
     shared: &SharedImage<D>,
     seats: &mut [ImageSeat<D>],
+    meeting: &Meeting,
 )
     requires sectors { shared.now.base.sectors ≡ 16 }
     requires seats { AreSeats shared.now.id shared.now.seats seats.old }
@@ -170,7 +272,7 @@ fn change_by_each<D: Disk + Send, R: Threads + Wait + Sync>(
         rt,
         seats,
         threads,
-        &|number, seat| { change_as(rt, shared, seat, number) },
+        &|number, seat| { act_as(rt, alloc, shared, seat, number, meeting) },
     );
 }
 
@@ -179,21 +281,36 @@ fn changed_at_once<D: Disk + Send + Drop, R: Threads + Wait + Sync>(
     rt: &R,
     alloc: Global,
     disk: D,
+    meeting: &Meeting,
 ) -> Result<Image<D>, Fail>
-    ensures { IfOk result (λ image. IsImage (seen D.Disk image)) }
+    ensures { IfOk result (λ image. (base : Base) × (history : History) × (base.lowers ≡ [])
+        × StandsFor (seen D.Disk image) base history) }
 {
-    let (shared, list) = started(alloc, disk, SECTORS, 4, 0)?;
+    let (shared, list) = started(alloc, disk, SECTORS, 5, 0)?;
     let mut list = list.into_vec();
-    change_by_each(rt, &shared, list.as_mut_slice());
+    act_by_each(rt, alloc, &shared, list.as_mut_slice(), meeting);
     Ok(shared.close(ListOf::from_vec(list)))
 }
 
-// The sectors of an image whose commit has five pieces, and the uuid of that commit.
+// The sectors of an image whose commit has five pieces.
 const MANY: u64 = 1024;
 
-const COMMIT: [u8; 16] = [0x22; 16];
+// Writes the first sector, which the first piece of the commit's file has, and the last one, which the last
+// piece has.
+fn write_ends<D: Disk, R: Wait>(
+    rt: &R,
+    shared: &SharedImage<D>,
+    seat: &mut ImageSeat<D>,
+) -> Result<(), PortFault>
+    requires sectors { shared.now.base.sectors ≡ 1024 }
+    requires seat { IsIdleSeat shared.now seat.old }
+    ensures same { IsSameSeat seat.old seat.new }
+{
+    shared.write(rt, seat, Extent { at: 0, count: 1 }, &[0x7A; 512])?;
+    shared.write(rt, seat, Extent { at: 1023, count: 1 }, &[0x7A; 512])
+}
 
-// Copies the next piece of a commit, and then writes the first sector by another seat.
+// Copies the next piece of a commit, and then writes both ends by another seat.
 fn copy_beside<D: Disk, R: Wait>(
     rt: &R,
     shared: &SharedImage<D>,
@@ -207,7 +324,7 @@ fn copy_beside<D: Disk, R: Wait>(
     ensures other { IsSameSeat other.old other.new }
 {
     let state = shared.copy(rt, seat, COMMIT);
-    shared.write(rt, other, Extent { at: 0, count: 1 }, &[0x7A; 512])?;
+    write_ends(rt, shared, other)?;
     match state {
         Ok(state) => Ok(state),
         Err(_) => Err(Fail::from("it was not copied")),
@@ -272,29 +389,61 @@ fn copied_beside<D: Disk, R: Wait>(
     Ok([first, second, third, fourth, fifth])
 }
 
-// The same with its seal: what the copies answered, the epoch, and the first sector and the status
-// afterwards.
+// Seals the commit, and reads the file that it left, of a block, 1,024 sectors, a block of rows and a block.
+fn sealed_file<D: Disk, R: Wait>(
+    rt: &R,
+    alloc: Global,
+    shared: &SharedImage<D>,
+    seat: &mut ImageSeat<D>,
+) -> Result<(u32, Vec<u8>), Fail>
+    requires seat { IsIdleSeat shared.now seat.old }
+    ensures same { IsSameSeat seat.old seat.new }
+{
+    let mut file = vec![in alloc; 0; 536_576]?;
+    let Ok(epoch) = shared.seal(rt, seat, COMMIT) else {
+        return Err(Fail::from("it was not sealed"));
+    };
+    shared.peek(rt, seat, epoch, 0, file.as_mut_slice())?;
+    Ok((epoch, file))
+}
+
+// What a commit came to: what the copies answered, the epoch and the file, and the first sector and the
+// status afterwards.
+#[derive(Drop)]
+struct Commit {
+    states: [CopyState; 5],
+    epoch: u32,
+    file: Vec<u8>,
+    out: [u8; 512],
+    told: (Status, u64),
+}
+
+// Commits an image that was written whole, beside writes of another seat.
 fn committed_beside<D: Disk, R: Wait>(
     rt: &R,
     alloc: Global,
     shared: &SharedImage<D>,
     mut seat: ImageSeat<D>,
     mut other: ImageSeat<D>,
-) -> Result<([CopyState; 5], u32, [u8; 512], (Status, u64)), Fail>
+) -> Result<Commit, Fail>
     requires sectors { shared.now.base.sectors ≡ 1024 }
     requires seat { IsIdleSeat shared.now seat }
     requires other { IsIdleSeat shared.now other }
 {
     let states = copied_beside(rt, alloc, shared, &mut seat, &mut other)?;
-    let Ok(epoch) = shared.seal(rt, &mut seat, COMMIT) else {
-        return Err(Fail::from("it was not sealed"));
-    };
+    let (epoch, file) = sealed_file(rt, alloc, shared, &mut seat)?;
     let mut out = [0; 512];
     let mut gaps = GapList::from_vec(Vec::new(alloc));
     let extent = Extent { at: 0, count: 1 };
     let _snapshot = shared.plan(rt, alloc, &mut seat, extent, &mut out, &mut gaps)?;
     let told = shared.status(rt, &mut seat)?;
-    Ok((states, epoch, out, told))
+    Ok(Commit {
+        states,
+        epoch,
+        file,
+        out,
+        told,
+    })
 }
 
 fn are_copied(states: [CopyState; 5]) -> bool {
@@ -302,7 +451,7 @@ fn are_copied(states: [CopyState; 5]) -> bool {
     states == [more, more, more, more, CopyState::Whole]
 }
 
-// Whether this is the status of an image with one layer, after a write, the freeze, a write beside each
+// Whether this is the status of an image with one layer, after a write, the freeze, two writes beside each
 // copy, the seal and the plan.
 fn is_told(told: (Status, u64)) -> bool {
     let status = Status {
@@ -310,7 +459,27 @@ fn is_told(told: (Status, u64)) -> bool {
         layers: 1,
         pending: None,
     };
-    told == (status, 9)
+    told == (status, 14)
+}
+
+// The sectors of an image of 1,024 that a layer file makes of zeros.
+fn painted(alloc: Global, file: Vec<u8>) -> Result<Vec<u8>, Fail> {
+    let mut shelf = shelf_of(alloc, file)?;
+    let layer = read_layer(alloc, &mut shelf, 0)?;
+    if layer.sectors() != MANY {
+        return Err(Fail::from("it has other sectors"));
+    }
+    let mut out = vec![in alloc; 0; 524_288]?;
+    match paint_part(&mut shelf, 0, &layer, 0, out.as_mut_slice()) {
+        Ok(()) => Ok(out),
+        Err(_) => Err(Fail::from("it was not painted")),
+    }
+}
+
+// Whether the file has what the image held at its freeze.
+fn is_frozen(alloc: Global, file: Vec<u8>) -> Result<bool, Fail> {
+    let sectors = painted(alloc, file)?;
+    Ok(sectors.as_slice().iter().all(|byte| *byte == 0x61))
 }
 
 #[test]
@@ -324,10 +493,15 @@ fn a_commit_is_copied_in_five_turns(rt: HostRuntime) -> Result<(), Fail> {
     let Some(seat) = list.pop() else {
         return Err("a seat")?;
     };
-    let (states, epoch, out, told) = committed_beside(&rt, alloc, &shared, seat, other)?;
-    holds(&rt, are_copied(states), "five pieces");
-    holds(&rt, epoch == 0 && out == [0x7A; 512], "the sector");
-    holds(&rt, is_told(told), "the status");
+    let commit = committed_beside(&rt, alloc, &shared, seat, other)?;
+    holds(&rt, are_copied(commit.states), "five pieces");
+    holds(
+        &rt,
+        commit.epoch == 0 && commit.out == [0x7A; 512],
+        "the sector",
+    );
+    holds(&rt, is_told(commit.told), "the status");
+    holds(&rt, is_frozen(alloc, commit.file)?, "the layer");
     committed_law();
     Ok(())
 }
@@ -342,7 +516,7 @@ fn push_step(list: &mut StepList, number: u32, step: Step) -> Result<(), Memory>
     list.push(Numbered { number, step })
 }
 
-// What one of the four callers does, as steps.
+// What one of the four callers that write does, as steps.
 fn push_own(alloc: Global, list: &mut StepList, number: u32) -> Result<(), Memory>
     requires number { number < 4 }
     requires may { MayRun 16 list.old }
@@ -366,22 +540,26 @@ fn push_own(alloc: Global, list: &mut StepList, number: u32) -> Result<(), Memor
     push_step(list, number, Step::Write(last, bytes))
 }
 
-// What all four do, one after another.
+// What all five do, as steps, with those of the commit among the others.
 fn all_steps(alloc: Global) -> Result<StepList, Memory>
     ensures may { IfOk result (MayRun 16) }
-    ensures length { IfOk result (λ list. length list ≤ 16) }
+    ensures length { IfOk result (λ list. length list ≤ 19) }
 {
     let mut list = StepList::from_vec(Vec::new(alloc));
     push_own(alloc, &mut list, 0)?;
+    push_step(&mut list, 4, Step::Freeze(COMMIT))?;
     push_own(alloc, &mut list, 1)?;
+    push_step(&mut list, 4, Step::Copy(COMMIT))?;
     push_own(alloc, &mut list, 2)?;
+    push_step(&mut list, 4, Step::Seal(COMMIT))?;
     push_own(alloc, &mut list, 3)?;
     Ok(list)
 }
 
 // The image that this leaves, made in one thread.
 fn changed_in_turn<D: Disk + Drop>(alloc: Global, disk: D) -> Result<Image<D>, Fail>
-    ensures { IfOk result (λ image. IsImage (seen D.Disk image)) }
+    ensures { IfOk result (λ image. (base : Base) × (history : History) × (base.lowers ≡ [])
+        × StandsFor (seen D.Disk image) base history) }
 {
     let mut image = new_image(alloc, disk, SECTORS)?;
     let mut replies = ReplyList::from_vec(Vec::new(alloc));
@@ -389,30 +567,52 @@ fn changed_in_turn<D: Disk + Drop>(alloc: Global, disk: D) -> Result<Image<D>, F
     Ok(image)
 }
 
-// All bytes of an image of sixteen sectors, and how many steps it made.
-fn bytes_and_steps<D: Disk>(alloc: Global, image: &mut Image<D>) -> Result<([u8; 8192], u64), Fail>
-    requires { IsImage (seen D.Disk image.old) }
+// What an image of sixteen sectors is seen as: all its bytes, what it says of itself, and its steps.
+type Sight = ([u8; 8192], Status, u64);
+
+// That of one over no lower layers.
+fn sight_of<D: Disk>(alloc: Global, image: &mut Image<D>) -> Result<Sight, Fail>
+    requires over { (base : Base) × (history : History) × (base.lowers ≡ [])
+        × StandsFor (seen D.Disk image.old) base history }
 {
     let steps = image.steps();
+    let status = image.status();
     if image.sectors() != SECTORS || steps > 1000 {
         return Err(Fail::from("it is another image"));
     }
-    let mut out = [0; 8192];
-    let mut gaps = GapList::from_vec(Vec::new(alloc));
+    let mut out = [0xFF; 8192];
     let all = Extent { at: 0, count: 16 };
-    let _snapshot = image.plan(alloc, all, &mut out, &mut gaps)?;
-    Ok((out, steps))
+    let mut shelf = no_files(alloc);
+    let answer = image.read_whole(alloc, &mut shelf, all, &mut out);
+    match answer {
+        Ok(()) => Ok((out, status, steps)),
+        Err(_) => Err(Fail::from("it was not read")),
+    }
+}
+
+// Whether these are the status and the steps of one layer more, and the four steps of each of four
+// callers with the two of a commit that note something.
+fn is_committed(status: Status, steps: u64) -> bool {
+    let expected = Status {
+        sectors: SECTORS,
+        layers: 1,
+        pending: None,
+    };
+    status == expected && steps == 18
 }
 
 #[test]
 fn what_threads_did_at_once_is_done(rt: HostRuntime) -> Result<(), Fail> {
     let alloc = rt.alloc();
-    let mut closed = changed_at_once(&rt, alloc, MemDisk::new(alloc))?;
+    let meeting = Meeting::new();
+    let mut closed = changed_at_once(&rt, alloc, MemDisk::new(alloc), &meeting)?;
     let mut run = changed_in_turn(alloc, MemDisk::new(alloc))?;
-    let (bytes, steps) = bytes_and_steps(alloc, &mut closed)?;
-    let (same, others) = bytes_and_steps(alloc, &mut run)?;
+    holds(&rt, meeting.are_done() == 31, "all five");
+    let (bytes, status, steps) = sight_of(alloc, &mut closed)?;
+    let (same, other, others) = sight_of(alloc, &mut run)?;
     holds(&rt, bytes == same, "the same bytes");
-    holds(&rt, steps == 16 && others == 16, "16 steps");
+    holds(&rt, is_committed(status, steps), "the commit");
+    holds(&rt, is_committed(other, others), "the same commit");
     acknowledged_law();
     one_thread_law(&closed, &run);
     Ok(())
